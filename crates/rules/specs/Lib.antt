@@ -1,0 +1,6 @@
+pub mod Values
+pub mod Group
+pub mod Loops
+pub mod Numbers
+pub mod Rows
+pub mod Windows
