@@ -4,3 +4,9 @@ pub mod Loops
 pub mod Numbers
 pub mod Rows
 pub mod Windows
+pub mod Lists
+pub mod Engines
+pub mod Batch
+pub mod Helpers
+pub mod Table
+pub mod Checks

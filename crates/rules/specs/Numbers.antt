@@ -1,5 +1,5 @@
 -- Numbers a call can answer: their names, the limits and bounds, and what an answer carries.
-use mathlib.Core.Bool.{Bool, true, false, cond, _||_}
+use mathlib.Core.Bool.{Bool, false, cond, _||_}
 use mathlib.Core.List.{List, [], _∷_}
 use Prim.Native.Nat.{ℕ, zero, suc, _^_}
 use lib.ListN.{replicate}

@@ -1,7 +1,7 @@
 -- Windows: successive and odd multiples, each entry from the one before; lookup by a digit, on any window as it stands.
-use mathlib.Core.Bool.{Bool, true, false, cond, not, _||_}
-use mathlib.Core.List.{List, [], _∷_, map}
-use Prim.Native.Nat.{ℕ, zero, suc, _+_, _-_, _*_, _/_, _%_}
+use mathlib.Core.Bool.{Bool, _||_}
+use mathlib.Core.List.{List, [], _∷_}
+use Prim.Native.Nat.{ℕ, zero, suc, _-_, _*_, _/_, _%_}
 use lib.ListN.{length}
 use lib.IntN.{ℤ, pos, negsuc, natAbs}
 use lib.Dec.{eqb, ltb, leb}
@@ -34,9 +34,10 @@ module _ {A : Type 0} (o : Ops A) where
   selected t (pos (suc k)) = t k
   selected t (negsuc k) = o .inv (t k)
 
-  -- NAF lookup in entries t: entry (|d| - 1) / 2, negated for negative d
+  -- NAF lookup in entries t: entry (|d| - 1) / 2, negated for negative d; a digit 0 adds nothing
   unfoldable pub selectedOdd : (ℕ → A) → ℤ → A
-  selectedOdd t (pos n) = t (oddEntry (pos n))
+  selectedOdd t (pos zero) = o .e
+  selectedOdd t (pos (suc n)) = t (oddEntry (pos (suc n)))
   selectedOdd t (negsuc n) = o .inv (t (oddEntry (negsuc n)))
 
 -- n residues t 0, t 1, .. as flat limbs
