@@ -1,6 +1,6 @@
 -- Lent lists: what a call asks of them, each condition named after its sentence in 01's table, and what is put into them.
 use mathlib.Core.Bool.{Bool, true, false, cond, not, _&&_, _||_}
-use mathlib.Core.List.{List, _++_}
+use mathlib.Core.List.{List, [], _∷_, _++_}
 use Prim.Native.Nat.{ℕ, _+_, _/_, _%_, min}
 use lib.ListN.{length, getD, take, drop}
 use lib.IntN.{ℤ, pos, natAbs}
@@ -88,6 +88,11 @@ anyWild ds = any (λ j. wildDigit (getD ds j (pos 0))) (length ds)
 -- a row or a window put into its part: the part holds it where it has its length, and keeps what it held where not
 unfoldable pub put : {A : Type 0} → List A → List A → List A
 put x l = cond (eqb (length l) (length x)) x l
+
+-- the limb arrays of a window as one flat list
+unfoldable pub joined : {A : Type 0} → List (List A) → List A
+joined [] = []
+joined (x ∷ l) = x ++ joined l
 
 -- a list with x stored from place a on
 unfoldable pub stored : {A : Type 0} → ℕ → List A → List A → List A
