@@ -15,8 +15,8 @@ use Rattle.rules.specs.Loops.{weight}
 use Rattle.rules.specs.Numbers.{notWhole, tooMany, noSlot, badRoom, bigScalar, badPoint, absentPoint, unequal, badDigit, most, first, given, counted, summed}
 use Rattle.rules.specs.Rows.{digit, nafRow, notLong}
 use Rattle.rules.specs.Windows.{odd, limbsFlat, anyOver}
-use Rattle.rules.specs.Lists.{notIn, beyondMost, scalarCount, pointCount, rowCount, listsNotWhole, listsTooMany, otherThan, anyBig, pointOver, isAbsent, absentBelow, anyWild, stored}
-use Rattle.rules.specs.Engines.{badLists, entrySum, entryAt}
+use Rattle.rules.specs.Lists.{notIn, beyondMost, scalarCount, pointCount, rowCount, listsNotWhole, listsTooMany, otherThan, anyBig, badLists, pointOver, isAbsent, absentBelow, anyWild, stored}
+use Rattle.rules.specs.Engines.{entrySum, entryAt}
 
 -- a slot is 256 digits (NAF width 5) and 32 limbs (its window)
 pub record Memory : Type 0 where

@@ -13,7 +13,7 @@ use Rattle.rules.specs.Loops.{highest, nonzero, weight}
 use Rattle.rules.specs.Numbers.{notWhole, tooMany, badRoom, bigScalar, badPoint, absentPoint, unequal, badDigit, most, mostStatic, first, given, counted, summed, roomAfter}
 use Rattle.rules.specs.Rows.{digit, usedPlaces, nafRow, radixRow, notLong}
 use Rattle.rules.specs.Windows.{odd, selectedOdd, limbsFlat, anyOver}
-use Rattle.rules.specs.Lists.{notIn, beyondMost, scalarCount, pointCount, pairs, listsNotWhole, listsTooMany, shorter, otherThan, anyBig, anyFlag, anyPoint, absentBelow}
+use Rattle.rules.specs.Lists.{notIn, beyondMost, scalarCount, pointCount, pairs, listsNotWhole, listsTooMany, shorter, otherThan, anyBig, badLists, absentBelow}
 
 -- the sum of scalar times point over the first m pairs
 unfoldable pub products : List ℕ → List ℕ → ℕ → ℕ
@@ -50,10 +50,6 @@ radixStraus ss ps ds ls =
       digits = roomAfter (pos 0) n (64 * m) ds;
       limbs = roomAfter 0 n (32 * m) ls;
     }
-
--- what NAF Straus, Pippenger, precomputed Straus and preparing ask alike: 6 of all scalars, 7 of all flags and present points
-unfoldable pub badLists : List ℕ → List ℕ → Bool
-badLists ps fs = anyFlag fs || anyPoint ps fs
 
 -- NAF Straus, width 5: room 256m digits, 32m limbs; absent anywhere: 8
 unfoldable pub nafStrausRefusal : List ℕ → List ℕ → List ℕ → ℕ → ℕ → ℕ

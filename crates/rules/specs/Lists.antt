@@ -70,6 +70,10 @@ pointOver Absent = false
 unfoldable pub anyPoint : List ℕ → List ℕ → Bool
 anyPoint ps fs = any (λ i. pointOver (optionalAt ps fs i)) (pointCount ps)
 
+-- 7: either of these
+unfoldable pub badLists : List ℕ → List ℕ → Bool
+badLists ps fs = anyFlag fs || anyPoint ps fs
+
 -- 8: a point that is absent, below an index n
 unfoldable pub isAbsent : OptionalPoint → Bool
 isAbsent (Present e) = false
