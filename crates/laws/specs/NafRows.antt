@@ -142,6 +142,7 @@ each P w s z o j = go (decLt j 256)
     go (yes h) = rw (naf-digit w s j h) (by-parity w (after (nafNext w) j s) (λ d _. P d) (λ _. z) (o (after (nafNext w) j s)))
     go (no h) = rw (past w s j (omega arith)) z
 
+-- what follows an odd state at place i is 0 for w - 1 places
 gap : (w s i j : ℕ) → i < j → j < i + w → after (nafNext w) i s % 2 ≡ 1 → digit (nafRow w s) j ≡ pos 0
 gap w s i j l r e = go (decLt j 256)
   where

@@ -29,7 +29,7 @@ by-width P p4 p5 p6 p7 p8 w lo hi =
     go (suc (suc (suc (suc zero)))) h = p8
     go (suc (suc (suc (suc (suc k))))) h = absurd (omega arith)
 
--- the place that takes the last carry, and what weighs less than it
+-- the places used: how many there are, and what the last of them weighs
 record Place (w : ℕ) : Type 0 where
   some : 1 ≤ usedPlaces w
   inside : usedPlaces w ≤ 64
@@ -118,7 +118,7 @@ module _ (w : ℕ) (lo : 4 ≤ w) (hi : w ≤ 8) where
   unfolding rowBound
   radix-last-8 s l = last-le 3 s (le-trans (le-of-lt l) (pow-mono {i = 255} {j = w * (usedPlaces w - 1) + 3} (omega (arith, place w lo hi .low))))
 
-  -- but at w = 4 centring it would change nothing: there is no carry out of it
+  -- from w = 5 on, centring it would change nothing: nothing is carried out of it
   pub radix-last-flat : (s : ℕ) → 5 ≤ w → s < 2 ^ 256 → above w (after (above w) (usedPlaces w - 1) s) ≡ 0
   unfolding above
   radix-last-flat s h l =
@@ -158,6 +158,7 @@ module _ (w : ℕ) (lo : 4 ≤ w) (hi : w ≤ 8) where
       (omega arith)
 
   -- ---- in the recoder's own numbers: the window at place i with the carry c into it
+
   pub radix-start : (N : ℕ) → after (above w) 0 N ≡ N / 2 ^ (w * 0) + 0
   unfolding after
   radix-start N = rw (mul-zero w) (omega (arith, div-one N))
