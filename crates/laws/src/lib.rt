@@ -1,0 +1,1 @@
+// Facts about the definitions of rules: no code.
