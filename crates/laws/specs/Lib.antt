@@ -1,0 +1,5 @@
+pub mod Group
+pub mod Multiples
+pub mod Sums
+pub mod Integers
+pub mod Residues
