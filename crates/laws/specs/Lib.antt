@@ -1,3 +1,16 @@
+pub mod Group
+pub mod Multiples
+pub mod Sums
+pub mod Integers
+pub mod Residues
+pub mod Loops
+pub mod Weight
+pub mod Places
+pub mod Windows
+pub mod Columns
+pub mod Walk
+pub mod Carried
+pub mod Buckets
 pub mod DigitsSum
 pub mod Digits
 pub mod RadixRows
