@@ -86,7 +86,8 @@ module _ {A C : Type 0} {o : Ops A} {u : Ops C} {In : A → Type 0} {φ : A → 
 
   pub selectedOdd-carry : (t : ℕ → A) (d : ℤ) → In (t (oddEntry d)) → In (selectedOdd o t d) × (φ (selectedOdd o t d) ≡ selectedOdd u (λ i. φ (t i)) d)
   unfolding selectedOdd
-  selectedOdd-carry t (pos n) h = (h, refl)
+  selectedOdd-carry t (pos zero) h = (e-in, to-e)
+  selectedOdd-carry t (pos (suc n)) h = (h, refl)
   selectedOdd-carry t (negsuc n) h = (inv-in h, to-inv h)
 
   pub sum-carry : (f : ℕ → A) (n : ℕ) → ((i : ℕ) → i < n → In (f i)) → In (sum o f n) × (φ (sum o f n) ≡ sum u (λ i. φ (f i)) n)

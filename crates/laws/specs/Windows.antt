@@ -29,7 +29,8 @@ module _ {A : Type 0} (o : Ops A) where
 
   pub selectedOdd-ext : (t u : ℕ → A) (d : ℤ) → t (oddEntry d) ≡ u (oddEntry d) → selectedOdd o t d ≡ selectedOdd o u d
   unfolding selectedOdd
-  selectedOdd-ext t u (pos n) h = h
+  selectedOdd-ext t u (pos zero) h = refl
+  selectedOdd-ext t u (pos (suc n)) h = h
   selectedOdd-ext t u (negsuc n) h = ap (o .inv) h
 
 -- the entry that an odd digit names is the digit's size
@@ -90,7 +91,9 @@ module _ {A : Type 0} {o : Ops A} {In : A → Type 0} (l : Laws o In) where
   pub odd-named : (d : ℤ) {p : A} → natAbs d % 2 ≡ 1 → In p → odd o p (oddEntry d) ≡ times o (natAbs d) p
   odd-named d {p} h hp = odd-is (oddEntry d) hp ∙ ap (λ (n : ℕ). times o n p) (odd-entry d h)
 
-  pub selectedOdd-is : (d : ℤ) {p : A} → natAbs d % 2 ≡ 1 → In p → selectedOdd o (odd o p) d ≡ timesZ o d p
-  unfolding selectedOdd timesZ
-  selectedOdd-is (pos n) h hp = odd-named (pos n) h hp
-  selectedOdd-is (negsuc n) h hp = ap (o .inv) (odd-named (negsuc n) h hp)
+  -- a digit that is 0 or odd
+  pub selectedOdd-is : (d : ℤ) {p : A} → ((d ≡ pos 0 → ⊥) → natAbs d % 2 ≡ 1) → In p → selectedOdd o (odd o p) d ≡ timesZ o d p
+  unfolding selectedOdd timesZ times
+  selectedOdd-is (pos zero) h hp = refl
+  selectedOdd-is (pos (suc n)) h hp = odd-named (pos (suc n)) (h (λ q. omega (arith, ap natAbs q))) hp
+  selectedOdd-is (negsuc n) h hp = ap (o .inv) (odd-named (negsuc n) (h (λ q. omega (arith, ap natAbs q))) hp)
