@@ -1,6 +1,5 @@
 // Answers: what a done call carries, and the zeros that a refused one does.
 ghost use mathlib.Core.Path.{_≡_};
-ghost use Rattle.rules.specs.Values.{limbsOf};
 ghost use Rattle.rules.specs.Numbers.{valued, counted, summed};
 ghost use Rattle.rules.specs.Helpers.{valueDone, countedDone, sumDone};
 use rules::Counted;
@@ -9,18 +8,11 @@ use rules::Element;
 use rules::Sum;
 use rules::Value;
 
-// The limbs of an element, as an answer holds them.
-fn limbs(e: Element) -> [u64; 4]
-    ensures { λ r. ⌜ r ≡ limbsOf e ⌝ }
-{
-    [e.l0, e.l1, e.l2, e.l3]
-}
-
 // A done call's element.
 pub fn value(e: Element) -> Value
     ensures { λ r. ⌜ r ≡ valueDone e ⌝ }
 {
-    let value = limbs(e);
+    let value = limbs::array(e);
     Value { number: 0, value }
 }
 
@@ -39,7 +31,7 @@ pub fn counted(c: Counts) -> Counted
 pub fn sum(e: Element, additions: u64, doublings: u64) -> Sum
     ensures { λ r. ⌜ r ≡ sumDone e additions doublings ⌝ }
 {
-    let value = limbs(e);
+    let value = limbs::array(e);
     Sum {
         number: 0,
         value,

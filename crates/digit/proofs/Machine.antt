@@ -1,15 +1,14 @@
 -- A digit of eight bits as the machine has it: widened, negated, tested.
 use mathlib.Core.Path.{_≡_, refl, sym, ap, _∙_}
 use mathlib.Core.Bool.{Bool, true, false}
-use Prim.Native.Nat.{ℕ, zero, suc, _+_, _-_, _%_, _^_, _≤_, _<_}
-use native.Mathlib.Nat.{lt-of-le-of-lt}
+use Prim.Native.Nat.{ℕ, zero, suc, _≤_}
 use native.Mathlib.Omega.{arith}
-use lib.IntN.{ℤ, pos, negsuc, negℤ, natAbs, subℕ, _+ℤ_, _-ℤ_, +ℤ-idl}
+use lib.IntN.{ℤ, pos, negsuc, negℤ, natAbs, _-ℤ_, +ℤ-idl}
 use lib.Signed.{mag, ltZ, nonNeg}
 use lib.Dec.{T}
-use mir.Syntax.{Width, w8, w16, w64}
-use mir.Val.{Fits, SFits, toZ, ofZ, bits, hbits}
-use mir.Facts.{toZ-pos, toZ-neg, toZ-ofZ, sfits-widen, fits-natAbs}
+use mir.Syntax.{w8, w16, w64}
+use mir.Val.{Fits, SFits, toZ, ofZ}
+use mir.Facts.{toZ-ofZ, sfits-widen, fits-natAbs}
 
 module _ (z : ℤ) (f : SFits w8 z) where
   pub back8 : toZ w8 (ofZ w8 z) ≡ z

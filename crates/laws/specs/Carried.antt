@@ -55,10 +55,11 @@ module _ {A C : Type 0} {o : Ops A} {u : Ops C} {In : A → Type 0} {φ : A → 
           → In (turn o d x m d′ x′ m′ j q) × (φ (turn o d x m d′ x′ m′ j q) ≡ turn u d (λ i k. φ (x i k)) m d′ (λ i k. φ (x′ i k)) m′ j (φ q))
       step j p q hq =
           let a = column-carry d x m j (λ i a. h i j a p) (op-in hq hq) in
-          let b = column-carry d′ x′ m′ j (λ i a. h′ i j a p) (a .0) in
-          (b .0,
-          b .1
-          ∙ ap (λ (r : C). column u d′ (λ i k. φ (x′ i k)) m′ j r) (a .1 ∙ ap (λ (r : C). column u d (λ i k. φ (x i k)) m j r) (to-op hq hq)))
+          let b = column-carry d′ x′ m′ j (λ i a. h′ i j a p) (a .0) in (
+            b .0,
+            b .1
+                ∙ ap (λ (r : C). column u d′ (λ i k. φ (x′ i k)) m′ j r) (a .1 ∙ ap (λ (r : C). column u d (λ i k. φ (x i k)) m j r) (to-op hq hq)),
+          )
 
   -- windows and lookups
   pub stepped-carry : {s p : A} (n : ℕ) → In s → In p → In (stepped o s p n) × (φ (stepped o s p n) ≡ stepped u (φ s) (φ p) n)
