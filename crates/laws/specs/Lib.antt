@@ -11,3 +11,10 @@ pub mod Columns
 pub mod Walk
 pub mod Carried
 pub mod Buckets
+pub mod Conditions
+pub mod Answers
+pub mod Room
+pub mod Parts
+pub mod Laid
+pub mod Ring
+pub mod RingMod
