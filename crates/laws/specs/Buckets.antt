@@ -1,10 +1,10 @@
 -- Buckets: points put by their digits, then the two running sums from the last bucket down; what they come to.
 -- Bucket k, from 0, holds what is to be counted k + 1 times.
-use mathlib.Core.Path.{_≡_, refl, sym, _∙_, ap, ap₂}
+use mathlib.Core.Path.{_≡_, refl, sym, _∙_, ap}
 use mathlib.Core.Bool.{Bool, true, false, cond}
 use mathlib.Core.List.{List}
 use Prim.Native.Nat.{ℕ, zero, suc, _+_, _-_, _<_, _≤_}
-use native.Mathlib.Nat.{zero-add, lt-suc-self, le-step}
+use native.Mathlib.Nat.{lt-suc-self, le-step}
 use native.Mathlib.Numerals.{add-one}
 use native.Mathlib.Decide.{ℕ-discrete}
 use native.Mathlib.Omega.{arith}
@@ -12,11 +12,11 @@ use lib.IntN.{ℤ, pos, negsuc, natAbs}
 use lib.ListN.{length, getD, set}
 use lib.Seq.{getD-set-same, getD-set-other}
 use lib.Dec.{eqb}
-use borrow.Author.Tests.{eq-eqb, ne-eqb, eqb-true, eqb-false}
+use borrow.Author.Tests.{eq-eqb, ne-eqb}
 use Rattle.rules.specs.Group.{Ops, times, timesZ, sum}
 use Rattle.rules.specs.Loops.{up, down, moved}
 use Rattle.laws.specs.Group.{Laws, idr, swap-mid}
-use Rattle.laws.specs.Multiples.{times-in, times-one, times-e, times-op, times-add, times-inv}
+use Rattle.laws.specs.Multiples.{times-in, times-e, times-op, times-inv}
 use Rattle.laws.specs.Sums.{sum-more, sum-ext, sum-in, sum-e, sum-raise}
 use Rattle.laws.specs.Loops.{down-ext}
 use Rattle.laws.specs.Walk.{moved-in}

@@ -1,14 +1,18 @@
 -- A map that carries a group's operations on members carries what is built of them: walks on four limbs to walks on residues.
-use mathlib.Core.Path.{_≡_, refl, sym, _∙_, ap, ap₂}
-use Prim.Native.Nat.{ℕ, zero, suc, _<_}
+use mathlib.Core.Path.{_≡_, refl, _∙_, ap, ap₂}
+use mathlib.Core.Bool.{Bool, true, false, cond}
+use Prim.Native.Nat.{ℕ, zero, suc, _+_, _<_}
 use native.Mathlib.Nat.{le-step, lt-suc-self}
+use native.Mathlib.Omega.{arith}
 use lib.IntN.{ℤ, pos, negsuc, natAbs}
-use Rattle.rules.specs.Group.{Ops, times, sum}
-use Rattle.rules.specs.Loops.{down, doubled, oddEntry, moved, column, walk}
+use lib.Dec.{eqb}
+use Rattle.rules.specs.Group.{Ops}
+use Rattle.rules.specs.Loops.{up, down, doubled, oddEntry, moved, column, walk}
 use Rattle.rules.specs.Windows.{stepped, successive, odd, selected, selectedOdd}
 use Rattle.laws.specs.Loops.{up-carry, down-carry}
 use Rattle.laws.specs.Columns.{turn}
 use Rattle.laws.specs.Walk.{Named}
+use Rattle.laws.specs.Buckets.{put, filled, ran, bucketSum}
 
 -- φ takes members of o's carrier to u's, and the operations with them
 pub record Carries {A C : Type 0} (o : Ops A) (u : Ops C) (In : A → Type 0) (φ : A → C) : Type 0 where
@@ -91,10 +95,37 @@ module _ {A C : Type 0} {o : Ops A} {u : Ops C} {In : A → Type 0} {φ : A → 
   selectedOdd-carry t (pos (suc n)) h = (h, refl)
   selectedOdd-carry t (negsuc n) h = (inv-in h, to-inv h)
 
-  pub sum-carry : (f : ℕ → A) (n : ℕ) → ((i : ℕ) → i < n → In (f i)) → In (sum o f n) × (φ (sum o f n) ≡ sum u (λ i. φ (f i)) n)
-  unfolding sum
-  sum-carry f zero h = (e-in, to-e)
-  sum-carry f (suc n) h =
-      let r = sum-carry f n (λ i p. h i (le-step p)) in
-      let m = h n (lt-suc-self n) in
-      (op-in (r .0) m, to-op (r .0) m ∙ ap (λ (y : C). u .op y (φ (f n))) (r .1))
+  -- buckets
+  put-carry : (d : ℤ) (p : A) (b : ℕ → A) (c : ℕ → C) (n : ℕ) → In p → In (b n) → φ (b n) ≡ c n
+      → In (put o d p b n) × (φ (put o d p b n) ≡ put u d (φ p) c n)
+  unfolding put
+  put-carry d p b c n hp hb e = go (eqb (n + 1) (natAbs d))
+    where
+      go : (t : Bool) → In (cond t (moved o d (b n) p) (b n)) × (φ (cond t (moved o d (b n) p) (b n)) ≡ cond t (moved u d (c n) (φ p)) (c n))
+      go true =
+          let r = moved-carry d hb hp in
+          (r .0, r .1 ∙ ap (λ (y : C). moved u d y (φ p)) e)
+      go false = (hb, e)
+
+  pub filled-carry : (d : ℕ → ℤ) (P : ℕ → A) (m n : ℕ) → ((i : ℕ) → i < m → In (P i))
+      → In (filled o d P m n) × (φ (filled o d P m n) ≡ filled u d (λ i. φ (P i)) m n)
+  unfolding filled up
+  filled-carry d P zero n h = (e-in, to-e)
+  filled-carry d P (suc m) n h =
+      let r = filled-carry d P m n (λ i p. h i (le-step p)) in
+      put-carry (d m) (P m) (filled o d P m) (filled u d (λ i. φ (P i)) m) n (h m (lt-suc-self m)) (r .0) (r .1)
+
+  pub bucketSum-carry : (b : ℕ → A) (n : ℕ) → ((i : ℕ) → i < n + 1 → In (b i)) → In (bucketSum o b n) × (φ (bucketSum o b n) ≡ bucketSum u (λ i. φ (b i)) n)
+  unfolding bucketSum
+  bucketSum-carry b n h =
+      let r = down-carry (λ (s : A × A). In (s .0) × In (s .1)) (λ (s : A × A). (φ (s .0), φ (s .1))) (ran o b) (ran u (λ i. φ (b i))) n step (h n (omega arith), h n (omega arith)) in
+      (r .0 .1, ap (λ (s : C × C). s .1) (r .1))
+    where
+      step : (j : ℕ) → j < n → (s : A × A) → In (s .0) × In (s .1)
+          → (In (o .op (s .0) (b j)) × In (o .op (s .1) (o .op (s .0) (b j))))
+          × (_≡_ {A = C × C} (φ (o .op (s .0) (b j)), φ (o .op (s .1) (o .op (s .0) (b j)))) (ran u (λ i. φ (b i)) j (φ (s .0), φ (s .1))))
+      step j p s m =
+          let hj = h j (omega (arith, p)) in
+          let a = op-in (m .0) hj in
+          let e : φ (o .op (s .0) (b j)) ≡ u .op (φ (s .0)) (φ (b j)) = to-op (m .0) hj in
+          ((a, op-in (m .1) a), ap₂ (λ (y z : C). (y, z)) e (to-op (m .1) a ∙ ap (u .op (φ (s .1))) e))

@@ -17,3 +17,10 @@ pub mod RadixRows
 pub mod NafRows
 pub mod RowsRule
 pub mod RowsRead
+pub mod Conditions
+pub mod Answers
+pub mod Room
+pub mod Parts
+pub mod Laid
+pub mod Ring
+pub mod RingMod

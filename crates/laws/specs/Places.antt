@@ -1,10 +1,10 @@
 -- From the highest place down, q taken to B q + c j: what it sums to. Rows of digits times points.
 use mathlib.Core.Path.{_≡_, refl, sym, _∙_, ap, ap₂}
-use Prim.Native.Nat.{ℕ, zero, suc, _+_, _*_, _^_, _<_}
+use Prim.Native.Nat.{ℕ, zero, suc, _+_, _^_, _<_}
 use native.Mathlib.Nat.{pow-zero, pow-suc, pow-succ', lt-suc-self, le-step}
 use native.Mathlib.Omega.{arith}
-use lib.IntN.{ℤ, pos, _+ℤ_, _*ℤ_}
-use Rattle.rules.specs.Group.{Ops, integers, times, timesZ, sum}
+use lib.IntN.{ℤ, pos, _*ℤ_}
+use Rattle.rules.specs.Group.{Ops, times, timesZ, sum}
 use Rattle.rules.specs.Loops.{up, down, doubled}
 use Rattle.rules.specs.Rows.{rowSum}
 use Rattle.laws.specs.Group.{Laws, idr}
@@ -69,18 +69,20 @@ module _ {A : Type 0} {o : Ops A} {In : A → Type 0} (l : Laws o In) where
       ∙ ap (λ (n : ℕ). times o n q) (sym (pow-succ' 2 w))
 
   -- w doublings and a column at each of n places
-  pub places-sum : (w : ℕ) (c : ℕ → A) (n : ℕ) → ((j : ℕ) → j < n → In (c j))
-      → down (λ j q. doubled o w q ⊕ c j) n e ≡ sum o (λ j. times o ((2 ^ w) ^ j) (c j)) n
-  places-sum w c n h =
-      down-sum (2 ^ w) c (λ j q. doubled o w q ⊕ c j) n h (λ j p r hr. ap (λ x. x ⊕ c j) (doubled-is w hr)) e-in
+  pub places-sum : (w : ℕ) (c : ℕ → A) (f : ℕ → A → A) (n : ℕ) → ((j : ℕ) → j < n → In (c j))
+      → ((j : ℕ) → j < n → (r : A) → In r → f j r ≡ doubled o w r ⊕ c j)
+      → down f n e ≡ sum o (λ j. times o ((2 ^ w) ^ j) (c j)) n
+  places-sum w c f n h step =
+      down-sum (2 ^ w) c f n h (λ j p r hr. step j p r hr ∙ ap (λ x. x ⊕ c j) (doubled-is w hr)) e-in
       ∙ ap (λ x. x ⊕ sum o (λ j. times o ((2 ^ w) ^ j) (c j)) n) (times-e l ((2 ^ w) ^ n))
       ∙ idl (sum-in l n (λ j p. times-in l ((2 ^ w) ^ j) (h j p)))
 
   -- the same, started from the highest column as it is
-  pub places-from : (w : ℕ) (c : ℕ → A) (n : ℕ) → ((j : ℕ) → j < n + 1 → In (c j))
-      → down (λ j q. doubled o w q ⊕ c j) n (c n) ≡ sum o (λ j. times o ((2 ^ w) ^ j) (c j)) (n + 1)
-  places-from w c n h =
-      down-sum (2 ^ w) c (λ j q. doubled o w q ⊕ c j) n below (λ j p r hr. ap (λ x. x ⊕ c j) (doubled-is w hr)) hn
+  pub places-from : (w : ℕ) (c : ℕ → A) (f : ℕ → A → A) (n : ℕ) → ((j : ℕ) → j < n + 1 → In (c j))
+      → ((j : ℕ) → j < n → (r : A) → In r → f j r ≡ doubled o w r ⊕ c j)
+      → down f n (c n) ≡ sum o (λ j. times o ((2 ^ w) ^ j) (c j)) (n + 1)
+  places-from w c f n h step =
+      down-sum (2 ^ w) c f n below (λ j p r hr. step j p r hr ∙ ap (λ x. x ⊕ c j) (doubled-is w hr)) hn
       ∙ comm (times-in l ((2 ^ w) ^ n) hn) (sum-in l n (λ j p. times-in l ((2 ^ w) ^ j) (below j p)))
       ∙ sym (sum-more o (λ j. times o ((2 ^ w) ^ j) (c j)) n)
     where

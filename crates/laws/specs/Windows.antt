@@ -1,14 +1,15 @@
 -- Windows: each entry from the one before, what it is a multiple of; lookup by a digit in a built window is digit times point.
 use mathlib.Core.Path.{_≡_, refl, sym, _∙_, ap}
 use Prim.Native.Nat.{ℕ, zero, suc, _+_, _-_, _*_, _/_, _%_, _<_, _≤_}
+use native.Mathlib.Nat.{mul-zero, mul-suc, one-mul}
 use native.Mathlib.Numerals.{add-one}
 use native.Mathlib.Omega.{arith}
 use lib.IntN.{ℤ, pos, negsuc, natAbs}
 use Rattle.rules.specs.Group.{Ops, times, timesZ}
 use Rattle.rules.specs.Loops.{oddEntry}
 use Rattle.rules.specs.Windows.{stepped, successive, odd, selected, selectedOdd}
-use Rattle.laws.specs.Group.{Laws, idr}
-use Rattle.laws.specs.Multiples.{times-in, times-one, times-two, times-add}
+use Rattle.laws.specs.Group.{Laws}
+use Rattle.laws.specs.Multiples.{times-one, times-two, times-add}
 
 module _ {A : Type 0} (o : Ops A) where
   pub stepped-none : (s p : A) → stepped o s p 0 ≡ p
@@ -54,19 +55,19 @@ module _ {A : Type 0} {o : Ops A} {In : A → Type 0} (l : Laws o In) where
   -- entry k of a window that steps by a P is (a k + 1) P
   stepped-is : (a k : ℕ) {p : A} → In p → stepped o (times o a p) p k ≡ times o (a * k + 1) p
   unfolding stepped
-  stepped-is a zero {p} h = sym (ap (λ (n : ℕ). times o (n + 1) p) (native.Mathlib.Nat.mul-zero a) ∙ times-one l h)
+  stepped-is a zero {p} h = sym (ap (λ (n : ℕ). times o (n + 1) p) (mul-zero a) ∙ times-one l h)
   stepped-is a (suc k) {p} h =
       ap (λ x. x ⊕ times o a p) (stepped-is a k h)
       ∙ sym (times-add l (a * k + 1) a h)
       ∙ ap (λ (n : ℕ). times o n p) (next a k)
     where
       next : (a k : ℕ) → a * k + 1 + a ≡ a * suc k + 1
-      next a k = rw (native.Mathlib.Nat.mul-suc a k) (omega arith)
+      next a k = rw (mul-suc a k) (omega arith)
 
   pub successive-is : (k : ℕ) {p : A} → In p → successive o p k ≡ times o (k + 1) p
   unfolding successive
   successive-is k {p} h =
-      ap (λ x. stepped o x p k) (sym (times-one l h)) ∙ stepped-is 1 k h ∙ ap (λ (n : ℕ). times o (n + 1) p) (native.Mathlib.Nat.one-mul k)
+      ap (λ x. stepped o x p k) (sym (times-one l h)) ∙ stepped-is 1 k h ∙ ap (λ (n : ℕ). times o (n + 1) p) (one-mul k)
 
   pub odd-is : (k : ℕ) {p : A} → In p → odd o p k ≡ times o (2 * k + 1) p
   unfolding odd
