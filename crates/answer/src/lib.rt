@@ -60,13 +60,13 @@ pub fn refused_counted(n: u8) -> Counted
 }
 
 // A refused call's zeros, where it carries a sum.
-pub fn refused_sum(n: u8) -> Sum
-    ensures { λ r. ⌜ r ≡ summed n 0 0 0 ⌝ }
+pub fn refused_sum(number: u8) -> Sum
+    ensures { λ r. ⌜ r ≡ summed number 0 0 0 ⌝ }
 {
-    let value = [0u64; 4];
+    let zeros = [0u64; 4];
     Sum {
-        number: n,
-        value,
+        number,
+        value: zeros,
         additions: 0,
         doublings: 0,
     }

@@ -6,7 +6,7 @@ use Rattle.answer.proofs.refused_sum.Tie as tie
 
 returns : tie.Need-returns
 unfolding summed places
-returns c = rw (none (c .args .n))
+returns c = rw (none (c .args .number))
 
 pub refused-sum-spec : {M : Type 1} → statement M
 refused-sum-spec = tie.close (tie.spec returns)
