@@ -66,7 +66,7 @@ module _ {A : Type 0} {o : Ops A} {In : A → Type 0} (l : Laws o In) where
   infixl 6 _⊕_
   weighed-in : (b : ℕ → A) (n : ℕ) → ((k : ℕ) → k < n → In (b k)) → In (weighed o b n)
   unfolding weighed
-  weighed-in b n h = sum-in l n (λ k p. times-in l (k + 1) (h k p))
+  weighed-in b n h = sum-in l n (λ k p. times-in l _ (h k p))
 
   -- the running sums from r and t on, over n buckets
   ran-is : (b : ℕ → A) (n : ℕ) {r t : A} → ((k : ℕ) → k < n → In (b k)) → In r → In t

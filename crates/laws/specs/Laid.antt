@@ -2,10 +2,10 @@
 use mathlib.Core.Path.{_≡_, sym, ap, ap₂, _∙_}
 use mathlib.Core.List.{List, _++_, append-assoc, append-nil}
 use Prim.Native.Nat.{ℕ, _+_, _-_, _*_, _<_, _≤_}
-use native.Mathlib.Nat.{mul-suc, mul-zero, mul-le-mul-left}
+use native.Mathlib.Nat.{add-sub-cancel-left, mul-suc, mul-zero, mul-le-mul-left}
 use native.Mathlib.Numerals.{add-one}
 use native.Mathlib.Omega.{arith}
-use lib.ListN.{length, drop, length-drop, length-append, drop-of-length-le}
+use lib.ListN.{length, take, drop, length-drop, length-append, drop-of-length-le}
 use lib.Seq.{take-at, drop-at, drop-drop}
 use Rattle.rules.specs.Values.{part, flat}
 use Rattle.rules.specs.Numbers.{cleared}
@@ -34,6 +34,13 @@ module _ {A : Type 0} (n : ℕ) (f : ℕ → List A) where
       where
         next : (n i : ℕ) → n * i + n ≡ n * (i + 1)
         next n i = sym (ap (λ (k : ℕ). n * k) (add-one i) ∙ mul-suc n i)
+
+    -- a loop's turn, as code says it: the row from n i to n i + n of memory d handed on, and coming back as ys
+    pub laid-turn : (d ys : List A) → d ≡ laid i l → ys ≡ f i → take (n * i) d ++ (ys ++ drop (n * i + n - n * i) (drop (n * i) d)) ≡ laid (i + 1) l
+    laid-turn d ys e q =
+        ap (λ (k : ℕ). take (n * i) d ++ (ys ++ drop k (drop (n * i) d))) (add-sub-cancel-left (n * i) n)
+        ∙ ap₂ (stored (n * i) n) e q
+        ∙ laid-more
 
     pub laid-length : n * i ≤ length l → length (laid i l) ≡ length l
     unfolding laid

@@ -3,7 +3,7 @@ use mathlib.Core.Path.{_≡_, refl, sym, ap, ap₂, _∙_}
 use mathlib.Core.Bool.{cond}
 use mathlib.Core.List.{List, [], _++_}
 use Prim.Native.Nat.{ℕ, zero, suc, _+_, _-_, _*_, _<_, _≤_}
-use native.Mathlib.Nat.{mul-suc, mul-zero, mul-le-mul-left, le-step, lt-suc-self}
+use native.Mathlib.Nat.{add-sub-cancel-left, mul-suc, mul-zero, mul-le-mul-left, le-step, lt-suc-self}
 use native.Mathlib.Decide.{decLt, ℕ-discrete}
 use native.Mathlib.Numerals.{add-one}
 use native.Mathlib.Omega.{arith}
@@ -71,6 +71,11 @@ module _ {A : Type 0} (a n : ℕ) (l ys : List A) (long : length ys ≡ n) (fits
   stored-cleared z m h = cleared-rest z m (stored a n l ys) l stored-length (stored-rest m h)
 
 module _ {A : Type 0} (n : ℕ) where
+  -- the part from n i to n i + n, as code says it
+  pub part-is : (i : ℕ) (l : List A) → take (n * i + n - n * i) (drop (n * i) l) ≡ part n i l
+  unfolding part
+  part-is i l = ap (λ (k : ℕ). take k (drop (n * i) l)) (add-sub-cancel-left (n * i) n)
+
   pub part-length : (i : ℕ) (l : List A) → n * i + n ≤ length l → length (part n i l) ≡ n
   unfolding part
   part-length i l h = length-take-le n (drop (n * i) l) (simp length-drop (omega arith))

@@ -1,15 +1,16 @@
 -- From the highest place down, q taken to B q + c j: what it sums to. Rows of digits times points.
 use mathlib.Core.Path.{_≡_, refl, sym, _∙_, ap, ap₂}
-use Prim.Native.Nat.{ℕ, zero, suc, _+_, _^_, _<_}
+use Prim.Native.Nat.{ℕ, zero, suc, _+_, _^_, _<_, _≤_}
 use native.Mathlib.Nat.{pow-zero, pow-suc, pow-succ', lt-suc-self, le-step}
 use native.Mathlib.Omega.{arith}
-use lib.IntN.{ℤ, pos, _*ℤ_}
+use lib.IntN.{ℤ, pos, _*ℤ_, *ℤ-zero}
 use Rattle.rules.specs.Group.{Ops, times, timesZ, sum}
 use Rattle.rules.specs.Loops.{up, down, doubled}
 use Rattle.rules.specs.Rows.{rowSum}
 use Rattle.laws.specs.Group.{Laws, idr}
 use Rattle.laws.specs.Multiples.{times-in, times-one, times-two, times-op, times-mul, times-e, timesZ-in, timesZ-add, timesZ-scale, timesZ-pos}
-use Rattle.laws.specs.Sums.{sum-more, sum-ext, sum-in, sum-swap, sum-times}
+use Rattle.laws.specs.Sums.{sum-more, sum-ext, sum-in, sum-swap, sum-times, sum-top}
+use Rattle.laws.specs.Integers.{integers-laws}
 
 module _ {A : Type 0} {o : Ops A} {In : A → Type 0} (l : Laws o In) where
   open Ops o using (op as _⊕_, e)
@@ -113,7 +114,35 @@ module _ {A : Type 0} {o : Ops A} {In : A → Type 0} (l : Laws o In) where
       columns-sum B (λ i j. timesZ o (d i j) (P i)) m n (λ i j p q. timesZ-in l (d i j) (h i p))
       ∙ sum-ext o m (λ i p. sym (row-times B (d i) n (h i p)))
 
--- the same where each row's weighted sum is its scalar
+-- top digits that are 0 may be left out
+pub rowSum-top : (B : ℕ) (d : ℕ → ℤ) (k n : ℕ) → k ≤ n → ((j : ℕ) → k ≤ j → j < n → d j ≡ pos 0) → rowSum B d n ≡ rowSum B d k
+unfolding rowSum
+rowSum-top B d k n le h =
+    sum-top integers-laws k n le (λ j p. tt) (λ j a b. ap (λ (z : ℤ). pos (B ^ j) *ℤ z) (h j a b) ∙ *ℤ-zero (pos (B ^ j)))
+
+-- where each row's weighted sum is its scalar
 pub scalars-sum : {A : Type 0} (o : Ops A) (B : ℕ) (d : ℕ → ℕ → ℤ) (P : ℕ → A) (s : ℕ → ℕ) (m n : ℕ) → ((i : ℕ) → i < m → rowSum B (d i) n ≡ pos (s i))
     → sum o (λ i. timesZ o (rowSum B (d i) n) (P i)) m ≡ sum o (λ i. times o (s i) (P i)) m
 scalars-sum o B d P s m n h = sum-ext o m (λ i p. ap (λ (z : ℤ). timesZ o z (P i)) (h i p) ∙ timesZ-pos o (s i) (P i))
+
+-- radix rows, w doublings and a column at each place: the sum of the scalars times the points
+module _ {A : Type 0} {o : Ops A} {In : A → Type 0} (l : Laws o In) (w : ℕ) (d : ℕ → ℕ → ℤ) (P : ℕ → A) (s : ℕ → ℕ) (m : ℕ) (c : ℕ → A) (f : ℕ → A → A) (n : ℕ)
+    (point-in : (i : ℕ) → i < m → In (P i)) (step : (j : ℕ) → j < n → (r : A) → In r → f j r ≡ o .op (doubled o w r) (c j)) where
+  column-in : {j : ℕ} → c j ≡ sum o (λ i. timesZ o (d i j) (P i)) m → In (c j)
+  column-in {j} e = rw e (sum-in l m (λ i p. timesZ-in l (d i j) (point-in i p)))
+
+  pub radix-sum : ((j : ℕ) → j < n → c j ≡ sum o (λ i. timesZ o (d i j) (P i)) m) → ((i : ℕ) → i < m → rowSum (2 ^ w) (d i) n ≡ pos (s i))
+      → down f n (o .e) ≡ sum o (λ i. times o (s i) (P i)) m
+  radix-sum column row =
+      places-sum l w c f n (λ j p. column-in (column j p)) step
+      ∙ sum-ext o n (λ j p. ap (times o ((2 ^ w) ^ j)) (column j p))
+      ∙ digits-sum l (2 ^ w) d P m n point-in
+      ∙ scalars-sum o (2 ^ w) d P s m n row
+
+  pub radix-from : ((j : ℕ) → j < n + 1 → c j ≡ sum o (λ i. timesZ o (d i j) (P i)) m) → ((i : ℕ) → i < m → rowSum (2 ^ w) (d i) (n + 1) ≡ pos (s i))
+      → down f n (c n) ≡ sum o (λ i. times o (s i) (P i)) m
+  radix-from column row =
+      places-from l w c f n (λ j p. column-in (column j p)) step
+      ∙ sum-ext o (n + 1) (λ j p. ap (times o ((2 ^ w) ^ j)) (column j p))
+      ∙ digits-sum l (2 ^ w) d P m (n + 1) point-in
+      ∙ scalars-sum o (2 ^ w) d P s m (n + 1) row
