@@ -4,12 +4,13 @@ use Prim.Native.Nat.{ℕ, _<_}
 use native.Mathlib.Nat.{add-comm}
 use Rattle.rules.specs.declared.Element.{Element}
 use Rattle.rules.specs.Values.{valueOf, elementOf}
-use Rattle.rules.specs.Group.{L, residues, less, added, subtracted, negated}
+use Rattle.rules.specs.Group.{L, residues, less, added, subtracted, negated, elements}
 use Rattle.laws.specs.Group.{Laws}
+use Rattle.laws.specs.Carried.{Carries}
 use Rattle.laws.specs.Residues.{modulo-laws}
 use Rattle.limbs.proofs.Elements.{Ranged, whole}
 use Rattle.residue.proofs.Reduction.{L-pos}
-use Rattle.residue.proofs.Members.{Member, value-in, member-of, added-is, added-value, added-in, subtracted-is, negated-value, negated-in}
+use Rattle.residue.proofs.Members.{Member, value-in, member-of, added-is, added-value, added-in, subtracted-is, subtracted-value, subtracted-in, negated-value, negated-in}
 
 -- the group of the engines
 pub group : Laws residues (λ a. a < L)
@@ -64,3 +65,16 @@ pub minus-is : (a b : Element) → Member a → Member b → subtracted a b ≡ 
 minus-is a b ha hb =
     subtracted-is a b ha hb ∙ ap elementOf (difference (valueOf a) (valueOf b) ha hb ∙ ap (residues .op (valueOf a)) (sym (negated-value b hb)))
     ∙ sym (added-is a (negated b) ha (negated-in b hb))
+
+-- the value of a member carries all that is built of the operations from four limbs to residues
+pub carries : Carries elements residues Member valueOf
+carries = record {
+  e-in = member-of 0 L-pos;
+  op-in = λ {a} {b} ha hb. added-in a b ha hb;
+  sub-in = λ {a} {b} ha hb. subtracted-in a b ha hb;
+  inv-in = λ {a} ha. negated-in a ha;
+  to-e = value-in 0 L-pos;
+  to-op = λ {a} {b} ha hb. added-value a b ha hb;
+  to-sub = λ {a} {b} ha hb. subtracted-value a b ha hb;
+  to-inv = λ {a} ha. negated-value a ha;
+}
