@@ -9,7 +9,7 @@ use Rattle.rules.specs.declared.OptionalPoint.{OptionalPoint}
 use Rattle.rules.specs.declared.OptionalPoint.the-variants.{Present, Absent}
 use Rattle.rules.specs.declared.Counted.{Counted}
 use Rattle.rules.specs.declared.Sum.{Sum}
-use Rattle.rules.specs.Values.{valueOf, elementOf, part, flat, pointAt, scalarAt}
+use Rattle.rules.specs.Values.{limbsOf, valueOf, elementOf, part, flat, pointAt, scalarAt}
 use Rattle.rules.specs.Group.{L, residues}
 use Rattle.rules.specs.Loops.{weight}
 use Rattle.rules.specs.Numbers.{notWhole, tooMany, noSlot, badRoom, bigScalar, badPoint, absentPoint, unequal, badDigit, most, first, given, counted, summed}
@@ -102,6 +102,38 @@ pub data Edit : Type 0 where
 unfoldable pub apply : Memory → Edit → AfterEdit
 apply m (toSet slot s p) = set m slot s p
 apply m (toClear slot) = clear m slot
+
+-- the memory after a run of edits, accepted or refused
+unfoldable pub memoryAfter : Memory → List Edit → Memory
+memoryAfter m [] = m
+memoryAfter m (e ∷ es) = memoryAfter (apply m e .memory) es
+
+-- a list of pairs, as it is lent for preparing
+pub record Pairs : Type 0 where
+  pub scalars : List ℕ
+  pub points : List ℕ
+  pub flags : List ℕ
+
+-- the limbs of a point that is there
+unfoldable pub limbsIn : OptionalPoint → List ℕ
+limbsIn (Present e) = limbsOf e
+limbsIn Absent = 0 ∷ 0 ∷ 0 ∷ 0 ∷ []
+
+-- the list with an edit's pair in its slot, where an edit of a batch of so many slots is accepted
+unfoldable pub replaced : Pairs → ℕ → List ℕ → OptionalPoint → Pairs
+replaced l slot s p =
+    let n : ℕ = scalarCount (l .scalars) in
+    given (setRefusal (256 * n) (32 * n) slot s p) l
+    (record { scalars = stored (32 * slot) s (l .scalars); points = stored (4 * slot) (limbsIn p) (l .points); flags = l .flags })
+
+unfoldable pub edited : Pairs → Edit → Pairs
+edited l (toSet slot s p) = replaced l slot s p
+edited l (toClear slot) = replaced l slot (replicate 32 0) (Present (elementOf 0))
+
+-- the list after a run of edits
+unfoldable pub listAfter : Pairs → List Edit → Pairs
+listAfter l [] = l
+listAfter l (e ∷ es) = listAfter (edited l e) es
 
 -- The total of any memory that passes check 10
 unfoldable pub totalRefusal : Memory → ℕ
