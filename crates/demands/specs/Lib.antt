@@ -1,2 +1,4 @@
 pub mod Accepted
 pub mod Edits
+pub mod Ready
+pub mod Fresh
