@@ -2,3 +2,4 @@ pub mod Accepted
 pub mod Edits
 pub mod Ready
 pub mod Fresh
+pub mod Agree
