@@ -236,13 +236,14 @@ one-edit l e r = go (ℕ-discrete (numberIn l e) 0)
         let q : edited l e ≡ l = edited-is l e ∙ given-refused l _ (numberIn l e) h in
         (refused-keeps (freshOf l) e (λ y. h (sym number-is ∙ y)) ∙ ap freshOf (sym q), rw q r, ap slots q)
     go (yes z) =
-        let q : edited l e ≡ with-pair l e = edited-is l e ∙ ap (λ (n : ℕ). given n l (with-pair l e)) z ∙ given-done l (with-pair l e) in
-        (accepted-stores (freshOf l) e (number-is ∙ z)
-        ∙ sym (fresh-then (l .scalars) (l .points) (slots l) (slotOf e) (bytesOf e) (pointOf e) (hs l e r z) (hp l e r z) (inside l e r z) (has l e r z .bytes) (has l e r z .present))
-        ∙ ap (fresh (with-pair l e .scalars) (with-pair l e .points)) (sym (same-slots l e r z))
-        ∙ ap freshOf (sym q),
-        rw q (ready-then l e r z),
-        ap slots q ∙ same-slots l e r z)
+        let q : edited l e ≡ with-pair l e = edited-is l e ∙ ap (λ (n : ℕ). given n l (with-pair l e)) z ∙ given-done l (with-pair l e) in (
+          accepted-stores (freshOf l) e (number-is ∙ z)
+              ∙ sym (fresh-then (l .scalars) (l .points) (slots l) (slotOf e) (bytesOf e) (pointOf e) (hs l e r z) (hp l e r z) (inside l e r z) (has l e r z .bytes) (has l e r z .present))
+              ∙ ap (fresh (with-pair l e .scalars) (with-pair l e .points)) (sym (same-slots l e r z))
+              ∙ ap freshOf (sym q),
+          rw q (ready-then l e r z),
+          ap slots q ∙ same-slots l e r z,
+        )
 
 many-edits : (l : Pairs) (es : List Edit) → Ready l → (memoryAfter (freshOf l) es ≡ freshOf (listAfter l es)) × Ready (listAfter l es) × (slots (listAfter l es) ≡ slots l)
 unfolding memoryAfter listAfter

@@ -68,21 +68,22 @@ module _ (l : Pairs) (d w : ℕ) where
       let o1′ = or-split _ _ (o1 .0) in
       let o2 = or-split _ _ (n2 .0) in
       let o5 = or-split _ _ (n5 .0) in
-      let o7 = or-split _ _ (n7 .0) in
-      (eqb-true _ _ (not-false _ (o5 .0)),
-      eqb-true _ _ (not-false _ (o5 .1)),
-      record {
-        scalars-whole = eqb-true _ _ (not-false _ (o1′ .0));
-        points-whole = eqb-true _ _ (not-false _ (o1′ .1));
-        flags-whole = eqb-true _ _ (not-false _ (o1 .1));
-        few = ltb-false _ _ (o2 .0);
-        few-points = ltb-false _ _ (o2 .1);
-        small = n6 .0;
-        flags-right = o7 .0;
-        below = o7 .1;
-        all-there = n8 .0;
-        equal = eqb-true _ _ (not-false _ (n9 .0));
-      })
+      let o7 = or-split _ _ (n7 .0) in (
+        eqb-true _ _ (not-false _ (o5 .0)),
+        eqb-true _ _ (not-false _ (o5 .1)),
+        record {
+          scalars-whole = eqb-true _ _ (not-false _ (o1′ .0));
+          points-whole = eqb-true _ _ (not-false _ (o1′ .1));
+          flags-whole = eqb-true _ _ (not-false _ (o1 .1));
+          few = ltb-false _ _ (o2 .0);
+          few-points = ltb-false _ _ (o2 .1);
+          small = n6 .0;
+          flags-right = o7 .0;
+          below = o7 .1;
+          all-there = n8 .0;
+          equal = eqb-true _ _ (not-false _ (n9 .0));
+        },
+      )
 
   pub taken : d ≡ 256 * slots l → w ≡ 32 * slots l → Ready l → prepareRefusal (l .scalars) (l .points) (l .flags) d w ≡ 0
   unfolding prepareRefusal badLists
