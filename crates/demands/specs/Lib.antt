@@ -3,3 +3,5 @@ pub mod Edits
 pub mod Ready
 pub mod Fresh
 pub mod Agree
+pub mod One
+pub mod OneGroup
