@@ -1,25 +1,19 @@
 -- An edit as slot, scalar and point; what it says that one is accepted, and what it then leaves.
-use mathlib.Core.Path.{_≡_, refl, sym, ap, ap₂, _∙_}
-use mathlib.Core.Bool.{Bool, true, false, not, _||_}
-use mathlib.Core.List.{List, [], _∷_}
-use Prim.Native.Nat.{ℕ, _+_, _*_, _/_, _%_, _<_, _≤_}
-use native.Mathlib.Decide.{ℕ-discrete}
+use mathlib.Core.Path.{_≡_, refl, sym}
+use mathlib.Core.Bool.{true, false}
+use mathlib.Core.List.{List}
+use Prim.Native.Nat.{ℕ, _*_, _/_, _%_, _<_, _≤_}
 use native.Mathlib.Omega.{arith}
 use lib.ListN.{length, replicate}
-use lib.IntN.{ℤ}
-use lib.Dec.{eqb}
 use borrow.Author.Tests.{leb-false, ltb-false, eqb-true, not-false}
 use Rattle.rules.specs.declared.OptionalPoint.{OptionalPoint}
 use Rattle.rules.specs.declared.OptionalPoint.the-variants.{Present}
-use Rattle.rules.specs.declared.Counted.{Counted}
-use Rattle.rules.specs.Values.{elementOf, part, flat, scalarAt}
-use Rattle.rules.specs.Group.{residues}
-use Rattle.rules.specs.Numbers.{most, first, given, counted}
-use Rattle.rules.specs.Rows.{nafRow, notLong}
-use Rattle.rules.specs.Windows.{odd, limbsFlat}
-use Rattle.rules.specs.Lists.{notIn, beyondMost, otherThan, anyBig, pointOver, isAbsent, stored}
-use Rattle.rules.specs.Batch.{Memory, AfterEdit, Edit, toSet, toClear, apply, set, clear, setIn, setRefusal, memoryNotWhole, valueIn, slotRow, slotWindow}
-use Rattle.laws.specs.Conditions.{or-split, first-none, given-done, given-refused}
+use Rattle.rules.specs.Values.{elementOf}
+use Rattle.rules.specs.Rows.{notLong}
+use Rattle.rules.specs.Windows.{limbsFlat}
+use Rattle.rules.specs.Lists.{notIn, beyondMost, otherThan, anyBig, pointOver, isAbsent}
+use Rattle.rules.specs.Batch.{Memory, Edit, toSet, toClear, apply, set, clear, setRefusal, memoryNotWhole, slotRow, slotWindow}
+use Rattle.laws.specs.Conditions.{or-split, first-none}
 use Rattle.laws.specs.NafRows.{naf-length}
 use Rattle.laws.specs.Parts.{flat-length}
 use Rattle.laws.specs.Parts as P

@@ -1,8 +1,8 @@
 -- Demand 3: on a ready list, with room enough, the multi-point engines answer 0 and the sum of scalar times point modulo L.
-use mathlib.Core.Path.{_≡_, refl, sym, ap, ap₂, _∙_}
-use mathlib.Core.Bool.{Bool, true, false, cond}
+use mathlib.Core.Path.{_≡_, refl, sym, ap, _∙_}
+use mathlib.Core.Bool.{Bool, false, cond}
 use mathlib.Core.List.{List, []}
-use Prim.Native.Nat.{ℕ, zero, suc, _+_, _*_, _/_, _%_, _<_, _≤_, min}
+use Prim.Native.Nat.{ℕ, zero, _*_, _%_, _<_, _≤_}
 use native.Mathlib.Nat.{add-zero, zero-add}
 use native.Mathlib.Omega.{arith}
 use lib.ListN.{length, getD}
@@ -12,11 +12,10 @@ use borrow.Author.Tests.{le-ltb}
 use Rattle.rules.specs.declared.Sum.{Sum}
 use Rattle.rules.specs.Values.{limb, places, pointAt, optionalAt}
 use Rattle.rules.specs.Group.{L, total}
-use Rattle.rules.specs.Numbers.{any, first, given, summed}
-use Rattle.rules.specs.Rows.{nafRow}
+use Rattle.rules.specs.Numbers.{any, given, summed}
 use Rattle.rules.specs.Windows.{over, anyOver}
-use Rattle.rules.specs.Lists.{beyondMost, scalarCount, pointCount, pairs, listsNotWhole, listsTooMany, shorter, otherThan, anyBig, badLists, pointOver, isAbsent, anyPoint, absentBelow}
-use Rattle.rules.specs.Engines.{After, products, rowsDigit, radixStraus, radixStrausRefusal, nafStraus, nafStrausRefusal, bucketWidth, pickedBy, bucketLimbs, pippenger, pippengerRefusal, mixed, mixedRefusal, entrySum, entryAt}
+use Rattle.rules.specs.Lists.{beyondMost, pointCount, pairs, shorter, anyBig, badLists, pointOver, isAbsent, anyPoint, absentBelow}
+use Rattle.rules.specs.Engines.{products, radixStraus, radixStrausRefusal, nafStraus, nafStrausRefusal, bucketWidth, pickedBy, bucketLimbs, pippenger, pippengerRefusal, mixed, mixedRefusal, entrySum}
 use Rattle.rules.specs.Batch.{Pairs}
 use Rattle.laws.specs.Conditions.{or-none, any-below, any-absent, first-next, first-end, given-done}
 use Rattle.demands.specs.Ready.{slots, Ready, whole-in, lists-whole, lists-few, same-count, over-by-flag, absent-by-flag}

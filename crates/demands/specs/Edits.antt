@@ -1,6 +1,5 @@
 -- Demand 3, on any memory, valid or not: an edit touches its own slot only; its answer and its slot depend on nothing else; edits of different slots swap.
 use mathlib.Core.Path.{_≡_, refl, sym, ap, ap₂, _∙_}
-use mathlib.Core.Bool.{Bool, true, false, cond}
 use mathlib.Core.List.{List}
 use Prim.Native.Nat.{ℕ, _+_, _*_, _/_, _<_, _≤_}
 use native.Mathlib.Nat.{mul-suc, mul-le-mul-left}
@@ -8,7 +7,6 @@ use native.Mathlib.Decide.{ℕ-discrete}
 use native.Mathlib.Omega.{arith}
 use lib.ListN.{length}
 use lib.IntN.{ℤ}
-use Rattle.rules.specs.declared.OptionalPoint.{OptionalPoint}
 use Rattle.rules.specs.Values.{part, scalarAt}
 use Rattle.rules.specs.Numbers.{given, counted}
 use Rattle.rules.specs.Lists.{stored}

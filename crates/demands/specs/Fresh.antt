@@ -11,19 +11,18 @@ use lib.IntN.{ℤ}
 use lib.Seq.{take-all}
 use lib.Dec.{eqb, leb}
 use borrow.Author.Tests.{eq-eqb, ne-eqb}
-use Rattle.rules.specs.declared.Element.{Element}
 use Rattle.rules.specs.declared.OptionalPoint.{OptionalPoint}
 use Rattle.rules.specs.declared.OptionalPoint.the-variants.{Present, Absent}
 use Rattle.rules.specs.Values.{number, valueOf, elementAt, part, flat, pointAt, optionalAt, scalarAt}
 use Rattle.rules.specs.Group.{L}
 use Rattle.rules.specs.Numbers.{scalarBound, given}
-use Rattle.rules.specs.Lists.{scalarCount, pointCount, anyBig, bigAt, anyPoint, pointOver, isAbsent, absentBelow, stored}
-use Rattle.rules.specs.Batch.{Memory, Pairs, Edit, toSet, toClear, apply, setRefusal, memoryAfter, limbsIn, valueIn, replaced, edited, listAfter, fresh, slotRow, slotWindow}
+use Rattle.rules.specs.Lists.{pointCount, anyBig, bigAt, anyPoint, pointOver, isAbsent, absentBelow, stored}
+use Rattle.rules.specs.Batch.{Memory, Pairs, Edit, toSet, toClear, apply, memoryAfter, limbsIn, valueIn, replaced, edited, listAfter, fresh, slotRow, slotWindow}
 use Rattle.laws.specs.Conditions.{any-below, any-absent, given-done, given-refused}
 use Rattle.laws.specs.Parts as P
 use Rattle.laws.specs.Parts.{part-at, flat-length, flat-ext, stored-flat}
 use Rattle.demands.specs.Accepted.{slotOf, bytesOf, pointOf, row-long, window-long, Accepted, accepted}
-use Rattle.demands.specs.Edits.{stored-long, stored-here, stored-other, part-in, digitsLong, windowsLong, numberOf, numberOn, rowOf, windowOf, refused-keeps, accepted-stores}
+use Rattle.demands.specs.Edits.{stored-long, stored-here, stored-other, part-in, digitsLong, windowsLong, numberOf, numberOn, refused-keeps, accepted-stores}
 use Rattle.demands.specs.Ready.{prepared, slots, Ready, prepared-is, prepared-from, over-by-flag, absent-by-flag}
 
 -- ---- one pair replaced in a list

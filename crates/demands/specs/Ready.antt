@@ -1,8 +1,8 @@
 -- A list of pairs that preparing takes: what it has passed, and the memory that it gives.
-use mathlib.Core.Path.{_≡_, refl, sym, ap, ap₂, _∙_}
-use mathlib.Core.Bool.{Bool, true, false, cond, not, _||_}
-use mathlib.Core.List.{List, [], _∷_}
-use Prim.Native.Nat.{ℕ, _+_, _*_, _/_, _%_, _<_, _≤_}
+use mathlib.Core.Path.{_≡_, refl, sym, ap, _∙_}
+use mathlib.Core.Bool.{Bool, true, false, cond, not}
+use mathlib.Core.List.{List}
+use Prim.Native.Nat.{ℕ, _*_, _%_, _≤_}
 use native.Mathlib.Omega.{arith}
 use lib.ListN.{length, getD}
 use lib.Dec.{eqb, leb}
@@ -10,7 +10,7 @@ use borrow.Author.Tests.{eqb-true, eq-eqb, ltb-false, le-ltb, not-false}
 use Rattle.rules.specs.declared.OptionalPoint.the-variants.{Present, Absent}
 use Rattle.rules.specs.Values.{valueOf, elementAt, pointAt, optionalAt}
 use Rattle.rules.specs.Group.{L}
-use Rattle.rules.specs.Numbers.{most, first, given, counted}
+use Rattle.rules.specs.Numbers.{given, counted}
 use Rattle.rules.specs.Lists.{notIn, beyondMost, scalarCount, pointCount, listsNotWhole, listsTooMany, otherThan, anyBig, anyFlag, anyPoint, badLists, pointOver, isAbsent, absentBelow}
 use Rattle.rules.specs.Batch.{Memory, AfterEdit, Pairs, prepareRefusal, prepare, fresh}
 use Rattle.laws.specs.Conditions.{or-split, or-none, first-next, first-none, first-end, given-done}
