@@ -1,0 +1,4 @@
+pub mod Reduction
+pub mod Members
+pub mod Laws
+pub mod Answers
