@@ -1,7 +1,7 @@
--- Answers of the group's calls: the refusal by the tests that lead to it, and what a refused and a done call carry.
+-- Answers of the group's calls: the refusal by the tests that lead to it, and what a done call carries.
 use mathlib.Core.Path.{_≡_, refl, sym, ap, _∙_}
 use mathlib.Core.Bool.{Bool, true, false, cond, _||_}
-use mathlib.Core.List.{List, [], _∷_}
+use mathlib.Core.List.{List}
 use Prim.Native.Nat.{ℕ, _<_}
 use native.Mathlib.Omega.{arith}
 use lib.ListN.{length}
@@ -9,13 +9,14 @@ use lib.Dec.{leb, eqb}
 use borrow.Author.Tests.{ne-eqb, eqb-true, leb-false, not-false}
 use Rattle.rules.specs.declared.Element.{Element}
 use Rattle.rules.specs.declared.Value.{Value}
-use Rattle.rules.specs.Values.{places, limbsOf, valueOf, elementOf, elementAt, pointAt}
+use Rattle.rules.specs.Values.{valueOf, elementAt, pointAt}
 use Rattle.rules.specs.Group.{L, added, subtracted, negated}
-use Rattle.rules.specs.Numbers.{any, first, given, valued}
+use Rattle.rules.specs.Numbers.{any, first}
 use Rattle.rules.specs.Rows.{notLong}
 use Rattle.rules.specs.Windows.{over, anyOver, pointRefusal}
 use Rattle.rules.specs.Calls.{pairRefusal, groupAdd, groupSubtract, groupNegate, groupDouble}
-use Rattle.limbs.proofs.Elements.{limbs-of}
+use Rattle.rules.specs.Helpers.{valueDone}
+use Rattle.answer.proofs.Answers.{done-value}
 use Rattle.residue.proofs.Members.{plus-law, minus-law, negative-law}
 
 -- what a test of an element says of the list that it was read from
@@ -59,7 +60,7 @@ neither : (u v : Bool) → (u || v) ≡ false → (u ≡ false) × (v ≡ false)
 neither true v e = (e, cc)
 neither false v e = (refl, e)
 
-point-member : (p : List ℕ) → pointRefusal p ≡ 0 → pointAt p 0 < L
+pub point-member : (p : List ℕ) → pointRefusal p ≡ 0 → pointAt p 0 < L
 unfolding pointRefusal first notLong
 point-member p e =
     let l : length p ≡ 4 = eqb-true _ _ (not-false _ (passed (notLong 4 p) (anyOver p) e .0)) in
@@ -69,46 +70,27 @@ pair-members : (a b : List ℕ) → pairRefusal a b ≡ 0 → (pointAt a 0 < L) 
 unfolding pairRefusal first
 pair-members a b e = let h = neither _ _ (passed (notLong 4 a || notLong 4 b) _ e .1) in (member a (h .0), member b (h .1))
 
--- what an answer holds: zeros where it is refused, else the limbs of what was found
-pub zeros : (n : ℕ) → record { number = n; value = 0 ∷ 0 ∷ 0 ∷ 0 ∷ [] } ≡ valued n 0
-unfolding valued given places
-zeros n = rw (either (eqb n 0))
-  where
-    either : (t : Bool) → _≡_ {A = ℕ} (cond t 0 0) 0
-    either true = refl
-    either false = refl
-
-pub refused-is : (v : ℕ) {n m : ℕ} {r : Value} → r ≡ valued n 0 → n ≡ m → (n ≡ 0 → ⊥) → r ≡ valued m v
-unfolding valued given
-refused-is v {n} e f h = e ∙ rw (sym f, ne-eqb n 0 h)
-
-done-is : (v : ℕ) {n m : ℕ} {e : Element} {l : List ℕ} → n ≡ m → n ≡ 0 → l ≡ limbsOf e → e ≡ elementOf v → record { number = n; value = l } ≡ valued m v
-unfolding valued given
-done-is v f z el ee = both z (el ∙ ap limbsOf ee ∙ sym (limbs-of v)) ∙ ap (λ (x : ℕ). valued x v) (sym z ∙ f)
-  where
-    both : {n m : ℕ} {l k : List ℕ} → n ≡ m → l ≡ k → _≡_ {A = Value} (record { number = n; value = l }) (record { number = m; value = k })
-    both p q = cc
-
-module _ (a b : List ℕ) {n : ℕ} (en : n ≡ pairRefusal a b) (z : n ≡ 0) {x y e : Element} {l : List ℕ} (ex : x ≡ elementAt a 0) (ey : y ≡ elementAt b 0) (el : l ≡ limbsOf e) where
+-- done calls
+module _ (a b : List ℕ) {n : ℕ} (en : n ≡ pairRefusal a b) (z : n ≡ 0) {x y : Element} (ex : x ≡ elementAt a 0) (ey : y ≡ elementAt b 0) where
   in-both : (pointAt a 0 < L) × (pointAt b 0 < L)
   in-both = pair-members a b (sym en ∙ z)
 
-  pub sum-answer : e ≡ added x y → record { number = n; value = l } ≡ groupAdd a b
+  pub sum-answer : {e : Element} {r : Value} → e ≡ added x y → r ≡ valueDone e → r ≡ groupAdd a b
   unfolding groupAdd pointAt
-  sum-answer ee = done-is _ en z el (ee ∙ plus-law x y (ap valueOf ex) (ap valueOf ey) (in-both .0) (in-both .1))
+  sum-answer ee er = done-value (sym en ∙ z) _ er (ee ∙ plus-law x y (ap valueOf ex) (ap valueOf ey) (in-both .0) (in-both .1))
 
-  pub difference-answer : e ≡ subtracted x y → record { number = n; value = l } ≡ groupSubtract a b
+  pub difference-answer : {e : Element} {r : Value} → e ≡ subtracted x y → r ≡ valueDone e → r ≡ groupSubtract a b
   unfolding groupSubtract pointAt
-  difference-answer ee = done-is _ en z el (ee ∙ minus-law x y (ap valueOf ex) (ap valueOf ey) (in-both .0) (in-both .1))
+  difference-answer ee er = done-value (sym en ∙ z) _ er (ee ∙ minus-law x y (ap valueOf ex) (ap valueOf ey) (in-both .0) (in-both .1))
 
-module _ (a : List ℕ) {n : ℕ} (en : n ≡ pointRefusal a) (z : n ≡ 0) {x e : Element} {l : List ℕ} (ex : x ≡ elementAt a 0) (el : l ≡ limbsOf e) where
+module _ (a : List ℕ) {n : ℕ} (en : n ≡ pointRefusal a) (z : n ≡ 0) {x : Element} (ex : x ≡ elementAt a 0) where
   in-one : pointAt a 0 < L
   in-one = point-member a (sym en ∙ z)
 
-  pub inverse-answer : e ≡ negated x → record { number = n; value = l } ≡ groupNegate a
+  pub inverse-answer : {e : Element} {r : Value} → e ≡ negated x → r ≡ valueDone e → r ≡ groupNegate a
   unfolding groupNegate pointAt
-  inverse-answer ee = done-is _ en z el (ee ∙ negative-law x (ap valueOf ex) in-one)
+  inverse-answer ee er = done-value (sym en ∙ z) _ er (ee ∙ negative-law x (ap valueOf ex) in-one)
 
-  pub double-answer : e ≡ added x x → record { number = n; value = l } ≡ groupDouble a
+  pub double-answer : {e : Element} {r : Value} → e ≡ added x x → r ≡ valueDone e → r ≡ groupDouble a
   unfolding groupDouble pointAt
-  double-answer ee = done-is _ en z el (ee ∙ plus-law x x (ap valueOf ex) (ap valueOf ex) in-one in-one)
+  double-answer ee er = done-value (sym en ∙ z) _ er (ee ∙ plus-law x x (ap valueOf ex) (ap valueOf ex) in-one in-one)

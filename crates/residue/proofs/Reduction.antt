@@ -9,7 +9,7 @@ use borrow.Author.Tests.{lt-ltb, le-ltb, le-leb, lt-leb, ltb-true, ltb-false}
 use Rattle.rules.specs.declared.Element.{Element}
 use Rattle.rules.specs.declared.Carried.{Carried}
 use Rattle.rules.specs.Values.{valueOf, elementOf}
-use Rattle.rules.specs.Group.{L, less, added, subtracted}
+use Rattle.rules.specs.Group.{L, added, subtracted}
 use Rattle.rules.specs.Limbs.{carriedSum, carriedDifference}
 use Rattle.limbs.proofs.Elements.{value-of, whole-of, unborrowed}
 

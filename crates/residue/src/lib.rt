@@ -2,9 +2,9 @@
 ghost use mathlib.Core.Path.{_≡_};
 ghost use lib.ListN.{getD};
 ghost use lib.Dec.{leb};
-ghost use Rattle.rules.specs.Values.{limbsOf, valueOf, elementOf, elementAt};
-ghost use Rattle.rules.specs.Group.{L, added, subtracted, negated};
-ghost use Rattle.rules.specs.Numbers.{valued};
+ghost use Rattle.rules.specs.Values.{valueOf, elementOf, elementAt};
+ghost use Rattle.rules.specs.Group.{L, added, subtracted, negated, elements};
+ghost use Rattle.rules.specs.Loops.{doubled};
 ghost use Rattle.rules.specs.Windows.{pointRefusal};
 ghost use Rattle.rules.specs.Calls.{pairRefusal, groupAdd, groupSubtract, groupNegate, groupDouble};
 use rules::Element;
@@ -90,11 +90,17 @@ pub fn twice(a: Element) -> Element
     plus(a, a)
 }
 
-// The limbs of an element, as an answer holds them.
-pub fn limbs(e: Element) -> [u64; 4]
-    ensures { λ r. ⌜ r ≡ limbsOf e ⌝ }
+// An element doubled k times, for any limbs.
+pub fn mul_by_pow_2(a: Element, k: usize) -> Element
+    ensures { λ r. ⌜ r ≡ doubled elements k a ⌝ }
 {
-    [e.l0, e.l1, e.l2, e.l3]
+    let mut q = a;
+    let mut i: usize = 0;
+    while i < k {
+        q = twice(q);
+        i += 1;
+    }
+    q
 }
 
 // Limb k of a list, 0 past its end.
@@ -167,24 +173,15 @@ fn pair_refusal(a: &[u64], b: &[u64]) -> u8
     0
 }
 
-// A refused answer: zeros.
-fn refused(number: u8) -> Value
-    ensures { λ r. ⌜ r ≡ valued number 0 ⌝ }
-{
-    let value = [0u64; 4];
-    Value { number, value }
-}
-
 // The sum of two lent elements.
 pub fn add(a: &[u64], b: &[u64]) -> Value
     ensures { λ r. ⌜ r ≡ groupAdd (now (a .entry)) (now (b .entry)) ⌝ }
 {
     let number = pair_refusal(a, b);
     if number != 0 {
-        return refused(number);
+        return answer::refused_value(number);
     }
-    let value = limbs(plus(element_at(a, 0), element_at(b, 0)));
-    Value { number, value }
+    answer::value(plus(element_at(a, 0), element_at(b, 0)))
 }
 
 // The difference of two lent elements.
@@ -193,10 +190,9 @@ pub fn subtract(a: &[u64], b: &[u64]) -> Value
 {
     let number = pair_refusal(a, b);
     if number != 0 {
-        return refused(number);
+        return answer::refused_value(number);
     }
-    let value = limbs(minus(element_at(a, 0), element_at(b, 0)));
-    Value { number, value }
+    answer::value(minus(element_at(a, 0), element_at(b, 0)))
 }
 
 // The inverse of a lent element.
@@ -205,12 +201,9 @@ pub fn negate(a: &[u64]) -> Value
 {
     let number = point_refusal(a);
     if number != 0 {
-        return refused(number);
+        return answer::refused_value(number);
     }
-    let x = element_at(a, 0);
-    let inverse = negative(x);
-    let value = limbs(inverse);
-    Value { number, value }
+    answer::value(negative(element_at(a, 0)))
 }
 
 // A lent element added to itself.
@@ -219,10 +212,7 @@ pub fn double(a: &[u64]) -> Value
 {
     let number = point_refusal(a);
     if number != 0 {
-        return refused(number);
+        return answer::refused_value(number);
     }
-    let p = element_at(a, 0);
-    let sum = twice(p);
-    let value = limbs(sum);
-    Value { number, value }
+    answer::value(twice(element_at(a, 0)))
 }

@@ -12,8 +12,8 @@ use Rattle.rules.specs.Loops.{highest, nonzero, weight, oddEntry}
 use Rattle.rules.specs.Numbers.{rowBound, scalarBound, any, first, given, valued, counted, summed, bytesAnswer, window8Answer, window64Answer, cleared, roomAfter}
 use Rattle.rules.specs.Rows.{rowSum, usedPlaces, centred, above, nafDigits, nafRow, radixDigits, radixRow, notLong, widthOff, rowless, recodeRefusal, sameDigit, sameRow, noScalar, readNafRefusal, readRadixRefusal, readNaf, readRadix}
 use Rattle.rules.specs.Windows.{stepped, successive, odd, selected, selectedOdd, limbsFlat, over, anyOver, pointRefusal, lookupTable, nafLookupTable5, nafLookupTable8, beyond, beyondOdd, lookupRefusal, select, selectNaf}
-use Rattle.rules.specs.Lists.{notIn, beyondMost, pairs, listsNotWhole, listsTooMany, shorter, otherThan, bigAt, anyBig, flagAt, anyFlag, pointOver, anyPoint, isAbsent, absentBelow, wildDigit, anyWild, stored}
-use Rattle.rules.specs.Engines.{products, rowsDigit, radixStrausRefusal, badLists, nafStrausRefusal, bucketWidth, pickedBy, bucketLimbs, pippengerRefusal, pippenger, newRefusal, newTables, entrySum, entryAt, mixedRefusal, mixed, singleRefusal, single, doubleRefusal, startPlace, double}
+use Rattle.rules.specs.Lists.{notIn, beyondMost, pairs, listsNotWhole, listsTooMany, shorter, otherThan, bigAt, anyBig, flagAt, anyFlag, pointOver, anyPoint, badLists, isAbsent, absentBelow, wildDigit, anyWild, stored}
+use Rattle.rules.specs.Engines.{products, rowsDigit, radixStrausRefusal, nafStrausRefusal, bucketWidth, pickedBy, bucketLimbs, pippengerRefusal, pippenger, newRefusal, newTables, entrySum, entryAt, mixedRefusal, mixed, singleRefusal, single, doubleRefusal, startPlace, double}
 use Rattle.rules.specs.Batch.{slotRow, slotWindow, prepareRefusal, fresh, prepare, memoryNotWhole, setRefusal, valueIn, setIn, set, clear, totalRefusal, slotDigit, totalOf}
 use Rattle.rules.specs.Table.{sparse, minus, scalar, point, said, two, points}
 

@@ -1,0 +1,120 @@
+-- Conditions of refusals: any of the places, the first of a list, what an answer carries.
+use mathlib.Core.Path.{_≡_, refl, sym, _∙_, ap}
+use mathlib.Core.Bool.{Bool, true, false, cond, _||_, or-true}
+use mathlib.Core.List.{List, [], _∷_}
+use Prim.Native.Nat.{ℕ, zero, suc, _+_, _<_, _≤_}
+use native.Mathlib.Numerals.{add-one}
+use native.Mathlib.Decide.{decLt}
+use native.Mathlib.Omega.{arith}
+use lib.Dec.{eqb}
+use borrow.Author.Tests.{ne-eqb}
+use Rattle.rules.specs.Numbers.{any, first, given}
+
+module _ (a b : Bool) where
+  pub or-left : a ≡ true → (a || b) ≡ true
+  or-left e = rw e
+
+  pub or-right : b ≡ true → (a || b) ≡ true
+  or-right e = rw e (or-true a)
+
+  pub or-none : a ≡ false → b ≡ false → (a || b) ≡ false
+  or-none e f = rw (e, f)
+
+  -- where neither holds
+  pub or-split : (a || b) ≡ false → (a ≡ false) × (b ≡ false)
+  or-split = go a
+    where
+      go : (a : Bool) → (a || b) ≡ false → (a ≡ false) × (b ≡ false)
+      go true e = let w : _≡_ {A = ℕ} 0 1 = cc in absurd (omega arith)
+      go false e = (refl, e)
+
+module _ (f : ℕ → Bool) where
+  pub any-none : any f 0 ≡ false
+  unfolding any
+  any-none = refl
+
+  step : (n : ℕ) → any f (suc n) ≡ (any f n || f n)
+  unfolding any
+  step n = refl
+
+  -- one place more
+  pub any-more : (n : ℕ) → any f n ≡ false → f n ≡ false → any f (n + 1) ≡ false
+  any-more n a b = rw (add-one n) (step n ∙ or-none (any f n) (f n) a b)
+
+  -- found
+  pub any-at : (n i : ℕ) → i < n → f i ≡ true → any f n ≡ true
+  any-at zero i h e = absurd (omega arith)
+  any-at (suc n) i h e = step n ∙ go (λ l. any-at n i l e) (decLt i n)
+    where
+      go : (i < n → any f n ≡ true) → Dec (i < n) → (any f n || f n) ≡ true
+      go again (yes l) = or-left (any f n) (f n) (again l)
+      go again (no m) = let q : i ≡ n = omega arith in or-right (any f n) (f n) (ap f (sym q) ∙ e)
+
+  -- found nowhere
+  pub any-below : (n i : ℕ) → any f n ≡ false → i < n → f i ≡ false
+  any-below n i e h = go (f i) refl
+    where
+      go : (b : Bool) → f i ≡ b → b ≡ false
+      go true q = sym (any-at n i h q) ∙ e
+      go false q = refl
+
+  pub any-absent : (n : ℕ) → ((i : ℕ) → i < n → f i ≡ false) → any f n ≡ false
+  any-absent zero h = any-none
+  any-absent (suc n) h = step n ∙ or-none (any f n) (f n) (any-absent n (λ i p. h i (omega (arith, p)))) (h n (omega arith))
+
+  -- at the loop's end every place has been passed
+  pub any-end : (n i : ℕ) → i ≤ n → n ≤ i → any f i ≡ false → false ≡ any f n
+  any-end n i h g e = let q : i ≡ n = omega arith in sym e ∙ ap (any f) q
+
+pub any-ext : {f g : ℕ → Bool} (n : ℕ) → ((i : ℕ) → i < n → f i ≡ g i) → any f n ≡ any g n
+unfolding any
+any-ext zero h = refl
+any-ext {f} {g} (suc n) h = rw (any-ext n (λ i p. h i (omega (arith, p))), h n (omega arith))
+
+-- the first condition that holds
+module _ (b : Bool) (n : ℕ) (r : List (Bool × ℕ)) where
+  pub first-here : b ≡ true → n ≡ first ((b, n) ∷ r)
+  unfolding first
+  first-here e = rw e
+
+  pub first-next : (k : ℕ) → b ≡ false → k ≡ first r → k ≡ first ((b, n) ∷ r)
+  unfolding first
+  first-next k e f = rw e f
+
+  -- where none holds
+  pub first-none : (n ≡ 0 → ⊥) → 0 ≡ first ((b, n) ∷ r) → (b ≡ false) × (0 ≡ first r)
+  first-none z = go b
+    where
+      go : (b : Bool) → 0 ≡ first ((b, n) ∷ r) → (b ≡ false) × (0 ≡ first r)
+      go true e = absurd (z (sym (unfold first in e)))
+      go false e = (refl, unfold first in e)
+
+pub first-end : 0 ≡ first []
+unfolding first
+first-end = refl
+
+-- what an answer carries: x where it is done, z where it is refused
+module _ {A : Type 0} (z x : A) where
+  pub given-done : given 0 z x ≡ x
+  unfolding given
+  given-done = refl
+
+  pub given-refused : (n : ℕ) → (n ≡ 0 → ⊥) → given n z x ≡ z
+  unfolding given
+  given-refused n h = rw (ne-eqb n 0 h)
+
+pub given-same : {A : Type 0} (n : ℕ) (z : A) → given n z z ≡ z
+unfolding given
+given-same {A} n z = go (eqb n 0)
+  where
+    go : (b : Bool) → cond b z z ≡ z
+    go true = refl
+    go false = refl
+
+pub given-map : {A C : Type 0} (f : A → C) (n : ℕ) (z x : A) → f (given n z x) ≡ given n (f z) (f x)
+unfolding given
+given-map f n z x = go (eqb n 0)
+  where
+    go : (b : Bool) → f (cond b x z) ≡ cond b (f x) (f z)
+    go true = refl
+    go false = refl
