@@ -1,8 +1,8 @@
 -- Numbers by their places in base 2 ^ m: one place, a part of the places, how large they are.
 use mathlib.Core.Path.{_≡_, refl, sym, ap, _∙_, subst}
 use mathlib.Core.List.{List, [], _∷_}
-use Prim.Native.Nat.{ℕ, zero, suc, _+_, _-_, _*_, _/_, _%_, _^_, _≤_, _<_}
-use native.Mathlib.Nat.{zero-mul, mul-zero, mul-suc, mul-comm, mul-add, mul-assoc, add-assoc, add-zero, zero-add, one-mul, pow-zero, pow-succ', div-one, zero-div, suc-add, add-suc, add-comm, mod-lt, mod-add-div}
+use Prim.Native.Nat.{ℕ, zero, suc, _+_, _*_, _/_, _%_, _^_, _<_}
+use native.Mathlib.Nat.{mul-zero, mul-suc, mul-comm, mul-add, mul-assoc, zero-add, one-mul, pow-zero, pow-succ', div-one, zero-div, suc-add, add-suc, add-comm, mod-lt, mod-add-div}
 use native.Mathlib.Omega.{arith}
 use native.Mathlib.Decide.{decLt}
 use lib.ListN.{length, getD, take, drop, List·getD-eq-default}

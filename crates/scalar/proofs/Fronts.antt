@@ -1,5 +1,5 @@
 -- What the fronts answer: by the width, refused, and done.
-use mathlib.Core.Path.{_≡_, refl, sym, ap, _∙_}
+use mathlib.Core.Path.{_≡_, sym, ap, _∙_}
 use mathlib.Core.Bool.{Bool, true, false}
 use mathlib.Core.List.{List, [], _∷_}
 use Prim.Native.Nat.{ℕ, _≤_, _<_}
@@ -8,12 +8,12 @@ use lib.ListN.{length, replicate, take}
 use lib.Seq.{take-all}
 use lib.IntN.{ℤ, pos, natAbs}
 use lib.Dec.{eqb, ltb}
-use borrow.Author.Tests.{eq-eqb, ne-eqb, lt-ltb, le-ltb, eqb-true, ltb-false, not-false}
+use borrow.Author.Tests.{eq-eqb, lt-ltb, le-ltb, eqb-true, ltb-false, not-false}
 use Rattle.rules.specs.declared.ScalarBytes.{ScalarBytes}
 use Rattle.rules.specs.Values.{number, places}
 use Rattle.rules.specs.Numbers.{first, nafAnswer, radixAnswer, bytesAnswer}
 use Rattle.laws.specs.Conditions.{first-none, given-done, given-refused, given-same, or-left, or-right, or-split}
-use Rattle.rules.specs.Rows.{notLong, widthOff, recodeRefusal, noScalar, nafRow, nafRowOf, nafOf, radixRow, radixRowOf, radixOf}
+use Rattle.rules.specs.Rows.{notLong, widthOff, rowless, recodeRefusal, noScalar, nafRow, nafRowOf, nafOf, radixRow, radixRowOf, radixOf}
 use Rattle.scalar.specs.Readers.{shapeRefusal}
 
 -- ---- the width
@@ -34,13 +34,24 @@ pub width-in : (low w : ℕ) → widthOff low w ≡ false → (low ≤ w) × (w 
 unfolding widthOff
 width-in low w e = let p = or-split (ltb w low) (ltb 8 w) e in (ltb-false w low (p .0), ltb-false 8 w (p .1))
 
+-- ---- the length
+
+pub is-long : {A : Type 0} (n : ℕ) (l : List A) → length l ≡ n → notLong n l ≡ false
+unfolding notLong
+is-long n l e = rw (eq-eqb (length l) n e)
+
+pub long-is : {A : Type 0} (n : ℕ) (l : List A) → notLong n l ≡ false → length l ≡ n
+unfolding notLong
+long-is n l e = eqb-true (length l) n (not-false (eqb (length l) n) e)
+
 -- ---- where a recoding refuses nothing
 
-pub passed : (low : ℕ) (l : List ℕ) (w : ℕ) → 0 ≡ recodeRefusal low l w → (length l ≡ 32) × (widthOff low w ≡ false)
-unfolding recodeRefusal notLong
+pub passed : (low : ℕ) (l : List ℕ) (w : ℕ) → 0 ≡ recodeRefusal low l w → (length l ≡ 32) × ((widthOff low w ≡ false) × (rowless l ≡ false))
+unfolding recodeRefusal
 passed low l w e =
     let p = first-none _ 1 _ (λ q. omega arith) e in
-    (eqb-true (length l) 32 (not-false (eqb (length l) 32) (p .0)), first-none _ 3 _ (λ q. omega arith) (p .1) .0)
+    let q = first-none _ 3 _ (λ q. omega arith) (p .1) in
+    (long-is 32 l (p .0), (q .0, first-none _ 6 _ (λ q. omega arith) (q .1) .0))
 
 -- of 32 bytes, all are taken
 pub all-taken : (l : List ℕ) → length l ≡ 32 → take 32 l ≡ l
@@ -54,8 +65,8 @@ module _ (l : List ℕ) (w n : ℕ) where
   pub naf-done : n ≡ recodeRefusal 2 l w → n ≡ 0 → (row : List ℤ) → row ≡ nafRowOf l w → record { number = n; row = row } ≡ nafOf l w
   unfolding nafOf nafAnswer nafRowOf
   naf-done e z row r =
-      let p : (length l ≡ 32) × (widthOff 2 w ≡ false) = passed 2 l w (sym z ∙ e) in
-      rw (← e, z, given-done (replicate 256 (pos 0)) (nafRow w (number 256 l))) (ap (λ (x : List ℤ). record { number = 0; row = x }) (r ∙ rw (p .1, all-taken l (p .0))))
+      let p = passed 2 l w (sym z ∙ e) in
+      rw (← e, z, given-done (replicate 256 (pos 0)) (nafRow w (number 256 l))) (ap (λ (x : List ℤ). record { number = 0; row = x }) (r ∙ rw (p .1 .0, all-taken l (p .0))))
 
   pub radix-refused : n ≡ recodeRefusal 4 l w → (n ≡ 0 → ⊥) → record { number = n; row = replicate 64 (pos 0) } ≡ radixOf l w
   unfolding radixOf radixAnswer
@@ -64,16 +75,16 @@ module _ (l : List ℕ) (w n : ℕ) where
   pub radix-done : n ≡ recodeRefusal 4 l w → n ≡ 0 → (row : List ℤ) → row ≡ radixRowOf l w → record { number = n; row = row } ≡ radixOf l w
   unfolding radixOf radixAnswer radixRowOf
   radix-done e z row r =
-      let p : (length l ≡ 32) × (widthOff 4 w ≡ false) = passed 4 l w (sym z ∙ e) in
-      rw (← e, z, given-done (replicate 64 (pos 0)) (radixRow w (number 256 l))) (ap (λ (x : List ℤ). record { number = 0; row = x }) (r ∙ rw (p .1, all-taken l (p .0))))
+      let p = passed 4 l w (sym z ∙ e) in
+      rw (← e, z, given-done (replicate 64 (pos 0)) (radixRow w (number 256 l))) (ap (λ (x : List ℤ). record { number = 0; row = x }) (r ∙ rw (p .1 .0, all-taken l (p .0))))
 
 -- ---- the readers
 
 pub shape-passed : (n low : ℕ) (row : List ℤ) (w : ℕ) → 0 ≡ shapeRefusal n low row w → (length row ≡ n) × (widthOff low w ≡ false)
-unfolding shapeRefusal notLong
+unfolding shapeRefusal
 shape-passed n low row w e =
     let p = first-none _ 1 _ (λ q. omega arith) e in
-    (eqb-true (length row) n (not-false (eqb (length row) n) (p .0)), first-none _ 3 _ (λ q. omega arith) (p .1) .0)
+    (long-is n row (p .0), first-none _ 3 _ (λ q. omega arith) (p .1) .0)
 
 -- row a list of n digits, low the least width, z what it sums to
 module _ (n low w : ℕ) (rowOf : ℕ → List ℤ) (row : List ℤ) (z : ℤ) where
@@ -94,9 +105,9 @@ module _ (n low w : ℕ) (rowOf : ℕ → List ℤ) (row : List ℤ) (z : ℤ) w
   -- where its shape is right, it is answered by whether a scalar has it
   module _ (right : 0 ≡ shapeRefusal n low row w) where
     pub read-none : noScalar rowOf z row ≡ true → bytesAnswer 10 0 ≡ bytesAnswer readRefusal (natAbs z)
-    unfolding first notLong bytesAnswer
-    read-none h = let p = shape-passed n low row w right in rw (eq-eqb (length row) n (p .0), p .1, h, given-refused 0 (natAbs z) 10 (λ e. omega arith), given-same {A = ℕ} 10 0)
+    unfolding first bytesAnswer
+    read-none h = let p = shape-passed n low row w right in rw (is-long n row (p .0), p .1, h, given-refused 0 (natAbs z) 10 (λ e. omega arith), given-same {A = ℕ} 10 0)
 
     pub read-found : noScalar rowOf z row ≡ false → (bytes : List ℕ) → bytes ≡ places 256 32 (natAbs z) → record { number = 0; bytes = bytes } ≡ bytesAnswer readRefusal (natAbs z)
-    unfolding first notLong bytesAnswer
-    read-found h bytes e = let p = shape-passed n low row w right in rw (eq-eqb (length row) n (p .0), p .1, h, given-done 0 (natAbs z), e)
+    unfolding first bytesAnswer
+    read-found h bytes e = let p = shape-passed n low row w right in rw (is-long n row (p .0), p .1, h, given-done 0 (natAbs z), e)

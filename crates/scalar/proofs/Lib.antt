@@ -9,3 +9,4 @@ pub mod NafTurn
 pub mod NibbleTurn
 pub mod RadixTurn
 pub mod Reading
+pub mod ReadBack

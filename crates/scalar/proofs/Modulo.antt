@@ -1,13 +1,13 @@
 -- Numbers modulo 2 ^ 256: what four limbs keep of a number, and a row's sum place by place.
 use mathlib.Core.Path.{_≡_, refl, sym, ap, _∙_, subst}
-use mathlib.Core.Bool.{Bool, true, false}
-use mathlib.Core.List.{List, [], _∷_}
-use Prim.Native.Nat.{ℕ, zero, suc, _+_, _-_, _*_, _/_, _%_, _^_, _≤_, _<_}
-use native.Mathlib.Nat.{mod-lt, mod-eq-of-lt, mod-add-div, mod-add-mod, add-mod, add-mod-right, add-mul-mod-self-left, add-zero, mul-add, mul-assoc, pow-succ', add-comm, le-trans}
+use mathlib.Core.Bool.{true, false}
+use mathlib.Core.List.{List, _∷_}
+use Prim.Native.Nat.{ℕ, suc, _+_, _-_, _*_, _/_, _%_, _^_, _≤_, _<_}
+use native.Mathlib.Nat.{mod-lt, mod-add-div, mod-add-mod, add-mod, add-mod-right, add-zero, mul-add, mul-assoc, pow-succ', add-comm, le-trans}
 use native.Mathlib.Numerals.{add-one}
 use native.Mathlib.Omega.{arith}
 use lib.Dec.{lit<, lit≤}
-use lib.ListN.{length, getD, drop}
+use lib.ListN.{length, drop}
 use lib.Seq.{drop-cons, drop-length}
 use lib.IntN.{ℤ, pos, negsuc, natAbs}
 use lib.Signed.{mag, ltZ}
@@ -21,7 +21,7 @@ use Rattle.rules.specs.Rows.{digit}
 use Rattle.laws.specs.Residues.{mul-mod-mod}
 use Rattle.laws.specs.DigitsSum.{plus, minus, weigh}
 use Rattle.limbs.proofs.Elements.{past, value-of, whole-of}
-use Rattle.scalar.specs.Sums.{Whole, Says}
+use Rattle.scalar.specs.Sums.{Says}
 
 -- ---- what four limbs keep
 

@@ -2,7 +2,6 @@
 use mathlib.Core.Path.{_≡_, refl, sym, ap, _∙_, subst}
 use mathlib.Core.Bool.{Bool, true, false, cond, not, _&&_, _||_}
 use mathlib.Core.List.{List, [], _∷_}
-use mathlib.Core.Logic.{_↔_}
 use Prim.Native.Nat.{ℕ, zero, suc, _+_, _-_, _*_, _/_, _%_, _^_, _≤_, _<_}
 use native.Mathlib.Nat.{mod-eq-of-lt, mod-add-mod, add-mul-mod-self-left, mod-lt, mod-add-div, mul-add, mul-one, lt-trans}
 use native.Mathlib.Omega.{arith}
@@ -13,10 +12,10 @@ use lib.Seq.{getD-set-same, getD-set-other, ext-getD, take-all}
 use lib.IntN.{ℤ, pos, negsuc, natAbs}
 use borrow.Author.Tests.{lt-ltb, ltb-true, leb-true, leb-false}
 use Rattle.rules.specs.declared.Element.{Element}
-use Rattle.rules.specs.Values.{number, places, limb, valueOf, elementOf}
+use Rattle.rules.specs.Values.{number, places, limb, valueOf}
 use Rattle.rules.specs.Numbers.{rowBound, any, bytesAnswer}
 use Rattle.rules.specs.Rows.{digit, rowSum, sameDigit, sameRow, noScalar}
-use Rattle.laws.specs.Conditions.{any-none, any-more, any-at, any-end}
+use Rattle.laws.specs.Conditions.{any-at, any-end}
 use Rattle.laws.specs.DigitsSum.{minus, weigh, balance}
 use Rattle.laws.specs.RowsRead.{same-row, same-row-search}
 use Rattle.limbs.proofs.Elements.{Ranged, ranged-of, small}
@@ -108,7 +107,7 @@ cancel M v s m a b e =
         let q : x + m + k ≡ x + M * (m / M + 1) = rw (mul-add M (m / M) 1, mul-one M) (omega (arith, mod-add-div m M)) in
         mod-add-mod (x + m) M k ∙ ap (λ (y : ℕ). y % M) q ∙ add-mul-mod-self-left x M (m / M + 1) ∙ mod-eq-of-lt l
 
-bound-room : rowBound < 2 ^ 256
+pub bound-room : rowBound < 2 ^ 256
 unfolding rowBound
 bound-room = lit< tt
 

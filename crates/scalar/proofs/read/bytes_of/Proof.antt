@@ -7,9 +7,6 @@ use Rattle.rules.specs.Values.{number, limb}
 use Rattle.scalar.proofs.Reading.{five-words, Bytes, bytes-none, bytes-more, bytes-end}
 use Rattle.scalar.proofs.read.bytes_of.Statement.{statement}
 use Rattle.scalar.proofs.read.bytes_of.Tie as tie
-use Rattle.scalar.proofs.read.bytes_of.Reads as reads
-use Rattle.scalar.proofs.read.bytes_of.Lts as lts
-use Rattle.scalar.proofs.words.bit_buf.Reads as bit-buf-reads
 
 abbrev Inv-loop : tie.InvT-loop
 Inv-loop x bytes₀ i₀ bytes i = Bytes (number limb x) bytes i

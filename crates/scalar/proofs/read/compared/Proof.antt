@@ -1,5 +1,5 @@
 -- The top byte and the rows, test by test.
-use mathlib.Core.Path.{_≡_, _∙_, sym}
+use mathlib.Core.Path.{_∙_, sym}
 use borrow.Author.Tests.{lt-ltb, le-ltb, not-true, not-false}
 use Rattle.scalar.specs.Readers.{comparedRows}
 use borrow.Author.Needs.{needs}

@@ -9,9 +9,6 @@ use Rattle.rules.specs.Limbs.{carriedSum}
 use Rattle.scalar.proofs.Modulo.{double-more}
 use Rattle.scalar.proofs.read.doubled.Statement.{statement}
 use Rattle.scalar.proofs.read.doubled.Tie as tie
-use Rattle.scalar.proofs.read.doubled.Reads as reads
-use Rattle.scalar.proofs.read.doubled.Lts as lts
-use Rattle.limbs.proofs.sum.Reads as sum-reads
 
 abbrev Inv-loop : tie.InvT-loop
 Inv-loop w r₀ counter₀ r counter = (counter ≤ w) × (r ≡ elementOf (2 ^ counter * valueOf r₀))

@@ -7,14 +7,6 @@ use Rattle.scalar.proofs.Reading.{compared-is}
 use borrow.Author.Needs.{needs}
 use Rattle.scalar.proofs.read.read_naf.Statement.{statement}
 use Rattle.scalar.proofs.read.read_naf.Tie as tie
-use Rattle.scalar.proofs.read.read_naf.Reads as reads
-use Rattle.scalar.proofs.read.read_naf.Lts as lts
-use Rattle.scalar.proofs.naf.naf_row.Reads as naf-row-reads
-use Rattle.scalar.proofs.read.bytes_of.Reads as bytes-of-reads
-use Rattle.scalar.proofs.read.compared.Reads as compared-reads
-use Rattle.scalar.proofs.read.refused.Reads as refused-reads
-use Rattle.scalar.proofs.read.row_sum.Reads as row-sum-reads
-use Rattle.scalar.proofs.read.shape_refusal.Reads as shape-refusal-reads
 
 shape-refusal-requires : tie.Need-shape-refusal-requires
 shape-refusal-requires c κs = search needs

@@ -6,10 +6,6 @@ use Rattle.scalar.specs.Sums.{Says}
 use Rattle.scalar.proofs.Modulo.{says-none, says-more, says-all}
 use Rattle.scalar.proofs.read.row_sum.Statement.{statement}
 use Rattle.scalar.proofs.read.row_sum.Tie as tie
-use Rattle.scalar.proofs.read.row_sum.Reads as reads
-use Rattle.scalar.proofs.read.row_sum.Lts as lts
-use Rattle.scalar.proofs.read.doubled.Reads as doubled-reads
-use Rattle.scalar.proofs.read.with_digit.Reads as with-digit-reads
 
 abbrev Inv-loop : tie.InvT-loop
 Inv-loop row w q₀ i₀ q i = (i ≤ length row) × Says w (drop i row) q

@@ -1,6 +1,6 @@
 -- Two rows compared. The loop's invariant: they differ at no place below i.
 use Prim.Native.Nat.{_-_, _≤_}
-use mathlib.Core.Path.{_≡_, _∙_, sym, ap, ap₂, refl}
+use mathlib.Core.Path.{_≡_, _∙_, sym, ap, ap₂}
 use mathlib.Core.Bool.{false, not}
 use native.Mathlib.Omega.{arith}
 use borrow.Author.Tests.{not-true}
@@ -13,9 +13,6 @@ use Rattle.laws.specs.Conditions.{any-none, any-more}
 use Rattle.scalar.proofs.Reading.{differAt, unequal, differ, agree}
 use Rattle.scalar.proofs.read.same_row.Statement.{statement}
 use Rattle.scalar.proofs.read.same_row.Tie as tie
-use Rattle.scalar.proofs.read.same_row.Reads as reads
-use Rattle.scalar.proofs.read.same_row.Lts as lts
-use Rattle.scalar.proofs.read.same_digit.Reads as same-digit-reads
 
 abbrev Inv-loop : tie.InvT-loop
 Inv-loop a b i₀ i = (i ≤ length a) × (any (differAt a b) i ≡ false)

@@ -1,23 +1,16 @@
 -- A digit added or taken away: the four limbs of its absolute value say it.
-use mathlib.Core.Path.{_≡_, _∙_, ap, sym}
-use mathlib.Core.Bool.{true, false}
+use mathlib.Core.Path.{_∙_, ap, sym}
 use Prim.Native.Nat.{ℕ, _+_, _-_, _^_}
 use lib.IntN.{ℤ, pos, natAbs}
 use lib.Signed.{ltZ}
-use mir.Syntax.{w8}
 use mir.Facts.{toZ-ofZ}
 use Rattle.rules.specs.declared.Carried.{Carried}
-use Rattle.rules.specs.Values.{number, valueOf, elementOf}
+use Rattle.rules.specs.Values.{valueOf, elementOf}
 use Rattle.rules.specs.Limbs.{carriedSum, carriedDifference}
 use Rattle.scalar.proofs.Modulo.{one-limb, taken-away, added}
 use borrow.Author.Needs.{needs}
 use Rattle.scalar.proofs.read.with_digit.Statement.{statement}
 use Rattle.scalar.proofs.read.with_digit.Tie as tie
-use Rattle.scalar.proofs.read.with_digit.Reads as reads
-use Rattle.scalar.proofs.read.with_digit.Lts as lts
-use Rattle.digit.proofs.magnitude.Reads as magnitude-reads
-use Rattle.limbs.proofs.difference.Reads as difference-reads
-use Rattle.limbs.proofs.sum.Reads as sum-reads
 
 magnitude-requires : tie.Need-magnitude-requires
 magnitude-requires c κs = search needs
