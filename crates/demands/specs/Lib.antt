@@ -4,5 +4,6 @@ pub mod Ready
 pub mod Fresh
 pub mod Agree
 pub mod Refusals
+pub mod Rows
 pub mod One
 pub mod OneGroup
