@@ -9,6 +9,8 @@ use lib.ListN.{length, getD}
 use lib.IntN.{ℤ, pos, negsuc, natAbs}
 use lib.Signed.{ltZ}
 use lib.Dec.{eqb, ltb}
+use mir.Syntax.{w8}
+use mir.Val.{SFits, toZ, ofZ}
 use borrow.Author.Tests.{lt-ltb, le-ltb, ltb-false, eq-eqb, ne-eqb, eqb-true, eqb-false, not-false}
 use Rattle.rules.specs.declared.Element.{Element}
 use Rattle.rules.specs.Values.{limb, valueOf, elementOf, elementAt, pointAt}
@@ -21,6 +23,7 @@ use Rattle.rules.specs.Helpers.{lookedUp}
 use Rattle.laws.specs.Conditions.{or-none, or-split, first-none}
 use Rattle.laws.specs.Windows.{selected-ext}
 use Rattle.laws.specs.Carried.{selected-carry, selectedOdd-carry}
+use Rattle.digit.proofs.Machine.{back8}
 use Rattle.limbs.proofs.Elements.{Ranged, ranged-of, whole}
 use Rattle.residue.proofs.Members.{Member, negated-ranged}
 use Rattle.residue.proofs.Laws.{carries}
@@ -53,6 +56,9 @@ module _ (w : List ℕ) where
 -- an entry, negated for a negative digit
 abbrev pub bySign : {A : Type 0} → Ops A → ℤ → A → A
 bySign o d x = cond (ltZ d (pos 0)) (o .inv x) x
+
+pub sign-is : {A : Type 0} (o : Ops A) (d : ℤ) (x : A) → SFits w8 d → (b : Bool) → ltZ (toZ w8 (ofZ w8 d)) (pos 0) ≡ b → cond b (o .inv x) x ≡ bySign o d x
+sign-is o d x f b e = ap (λ (t : Bool). cond t (o .inv x) x) (sym e ∙ ap (λ (z : ℤ). ltZ z (pos 0)) (back8 d f))
 
 module _ {A : Type 0} (o : Ops A) (t : ℕ → A) where
   pub selected-sign : (d : ℤ) → bySign o d (selected o t (pos (natAbs d))) ≡ selected o t d

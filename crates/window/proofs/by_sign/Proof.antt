@@ -1,7 +1,9 @@
--- The digit is back from its eight bits, and its sign decides.
-use mathlib.Core.Path.{sym}
+-- The sign decides.
+use mathlib.Core.Path.{_∙_}
+use mathlib.Core.Bool.{true, false}
 use borrow.Author.Needs.{needs}
-use Rattle.digit.proofs.Machine.{back8}
+use Rattle.rules.specs.Group.{elements}
+use Rattle.window.proofs.Lookups.{sign-is}
 use Rattle.window.proofs.by_sign.Statement.{statement}
 use Rattle.window.proofs.by_sign.Tie as tie
 
@@ -9,10 +11,10 @@ negative-requires : tie.Need-negative-requires
 negative-requires c κs = search needs
 
 returns : tie.Need-returns
-returns c = rw (sym (back8 _ (c .before .before .fits .d)), c .before .if1 .taken) (c .negative .ensures)
+returns c = c .negative .ensures ∙ sign-is elements _ _ (c .before .before .fits .d) true (c .before .if1 .taken)
 
 returns-2 : tie.Need-returns-2
-returns-2 c = rw (sym (back8 _ (c .before .fits .d)), c .if1 .left)
+returns-2 c = sign-is elements _ _ (c .before .fits .d) false (c .if1 .left)
 
 pub by-sign-spec : {M : Type 1} → statement M
 by-sign-spec = tie.close (tie.spec negative-requires returns returns-2)
