@@ -1,0 +1,1 @@
+fn main(){ println!("{}", curve25519_dalek::probe::sound()); }
