@@ -1,0 +1,254 @@
+//! Cases of the engines over lists, and of static tables.
+
+use super::values::*;
+use crate::calls::odd_window;
+use crate::case::{Argument, Case};
+use crate::engines::{pippenger_width, width_count};
+use crate::number::Limbs;
+use crate::random::Random;
+
+/// Lists of pairs before they are flattened, so that any number can be made to hold.
+pub struct Pairs {
+    pub scalars: Vec<Limbs>,
+    pub points: Vec<Limbs>,
+    pub flags: Vec<u8>,
+}
+
+/// How many pairs: few, seldom some dozens.
+pub fn few(r: &mut Random) -> usize {
+    match r.below(20) {
+        0 => 8 + r.below(30),
+        1..=3 => 0,
+        _ => 1 + r.below(5),
+    }
+}
+
+impl Pairs {
+    /// Lists of these lengths; long ones repeat one value.
+    pub fn new(r: &mut Random, ns: usize, np: usize) -> Pairs {
+        let (s, p) = (scalar(r), element(r));
+        let long = ns.max(np) > 1024;
+        Pairs {
+            scalars: (0..ns).map(|_| if long { s } else { scalar(r) }).collect(),
+            points: (0..np).map(|_| if long { p } else { element(r) }).collect(),
+            flags: vec![1; np],
+        }
+    }
+
+    /// Random lists: of one length mostly; where the shorter decides, of two.
+    pub fn random(r: &mut Random, bad: &[u8], equal: bool) -> Pairs {
+        let (mut ns, mut np) = (few(r), few(r));
+        if equal || !r.once_in(4) {
+            np = ns;
+        }
+        if bad.contains(&2) {
+            (ns, np) = r.pick(&[(1025, 1025), (1025, 1), (1, 1025), (0, 1025), (1025, 1024)]);
+        }
+        if bad.iter().any(|n| [5, 6].contains(n)) {
+            ns = ns.max(1);
+        }
+        if bad.iter().any(|n| [5, 7, 8].contains(n)) {
+            np = np.max(1);
+        }
+        if equal && bad.contains(&9) && ns == np {
+            if r.once_in(2) { ns += 1 } else { np += 1 }
+        } else if equal && !bad.contains(&2) {
+            (ns, np) = (ns.max(np), ns.max(np));
+        }
+        let mut pairs = Pairs::new(r, ns, np);
+        pairs.spoil(r, bad);
+        pairs
+    }
+
+    /// 6, 7 and 8 anywhere in the lists; wild limbs behind an absent flag.
+    pub fn spoil(&mut self, r: &mut Random, bad: &[u8]) {
+        if bad.contains(&6) && !self.scalars.is_empty() {
+            let at = r.below(self.scalars.len());
+            self.scalars[at] = large_scalar(r);
+        }
+        if self.points.is_empty() {
+            return;
+        }
+        if bad.contains(&8) {
+            let at = r.below(self.points.len());
+            self.flags[at] = 0;
+            self.points[at] = if r.once_in(2) { large_element(r) } else { element(r) };
+        }
+        if bad.contains(&7) {
+            let at = r.below(self.points.len());
+            if r.once_in(3) {
+                self.flags[at] = r.pick(&[2, 3, 128, 255]);
+            } else {
+                self.points[at] = large_element(r);
+                self.flags[at] = 1;
+            }
+        }
+    }
+}
+
+/// Flat lists, one of them torn where 1 is asked for.
+pub fn flatten(r: &mut Random, pairs: &Pairs, bad: &[u8], flagged: bool) -> (Vec<u8>, Vec<u64>, Vec<u8>) {
+    let (mut s, mut p, mut f) = (bytes(&pairs.scalars), flat(&pairs.points), pairs.flags.clone());
+    if bad.contains(&1) {
+        match r.below(if flagged { 3 } else { 2 }) {
+            0 => tear(r, &mut s, 32, 0),
+            1 => tear(r, &mut p, 4, 0),
+            _ if f.is_empty() || r.once_in(2) => f.push(1),
+            _ => f.truncate(f.len() - 1),
+        }
+    }
+    (s, p, f)
+}
+
+/// Room of what is needed, or a little more; 5 takes one off one of the two.
+pub fn room(r: &mut Random, digits: usize, limbs: usize, bad: &[u8]) -> (Vec<i8>, Vec<u64>) {
+    let (mut d, mut l) = (digits + r.pick(&[0, 0, 1, 5]), limbs + r.pick(&[0, 0, 1, 4]));
+    if bad.contains(&5) {
+        let first = r.once_in(2);
+        if digits > 0 && (first || limbs == 0) {
+            d = r.pick(&[digits - 1, digits - 1, digits / 2, 0]);
+        } else if limbs > 0 {
+            l = r.pick(&[limbs - 1, limbs - 1, limbs / 2, 0]);
+        }
+    }
+    (digit_room(r, d), limb_room(r, l))
+}
+
+pub fn case(r: &mut Random, code: u8, bad: &[u8]) -> Case {
+    let mut bad = bad.to_vec();
+    if code == 22 && bad.contains(&8) && r.once_in(5) {
+        // an absent point past the last scalar is ignored
+        bad.retain(|n| *n != 8);
+        return past_the_last(r);
+    }
+    match code {
+        20 => tables(r, &bad),
+        21 => mixed(r, &bad),
+        _ => {
+            let pairs = Pairs::random(r, &bad, false);
+            engine(r, code, &pairs, &bad)
+        }
+    }
+}
+
+/// A case of an engine over these lists.
+pub fn engine(r: &mut Random, code: u8, pairs: &Pairs, bad: &[u8]) -> Case {
+    let (ns, np) = (pairs.scalars.len(), pairs.points.len());
+    let m = ns.min(np);
+    let (digits, limbs) = match code {
+        18 => (64 * m, 32 * m),
+        19 => (256 * m, 32 * m),
+        _ => (64 * m, 4 << (pippenger_width(width_count(ns, m)) - 1)),
+    };
+    let (s, p, f) = flatten(r, pairs, bad, code != 18);
+    let (d, l) = room(r, digits, limbs, bad);
+    let mut arguments = vec![Argument::Bytes(s), Argument::Limbs(p)];
+    if code != 18 {
+        arguments.push(Argument::Bytes(f));
+    }
+    arguments.extend([Argument::Digits(d), Argument::Limbs(l)]);
+    Case { code, arguments }
+}
+
+fn past_the_last(r: &mut Random) -> Case {
+    let ns = r.below(4);
+    let np = ns + 1 + r.below(3);
+    let mut pairs = Pairs::new(r, ns, np);
+    for at in ns..np {
+        pairs.flags[at] = r.below(2) as u8;
+        if pairs.flags[at] == 0 && r.once_in(2) {
+            pairs.points[at] = large_element(r);
+        }
+    }
+    engine(r, 22, &pairs, &[])
+}
+
+/// Static tables of a few points.
+pub fn tables(r: &mut Random, bad: &[u8]) -> Case {
+    let n = match () {
+        _ if bad.contains(&2) => 65,
+        _ if bad.contains(&5) || bad.contains(&7) => 1 + r.below(3),
+        _ if r.once_in(30) => 64,
+        _ => r.below(4),
+    };
+    let mut pairs = Pairs::new(r, 0, n);
+    if bad.contains(&7) {
+        let at = r.below(n);
+        pairs.points[at] = large_element(r);
+    }
+    let mut points = flat(&pairs.points);
+    if bad.contains(&1) {
+        tear(r, &mut points, 4, 0);
+    }
+    let need = 256 * n;
+    let length = if bad.contains(&5) { r.pick(&[need - 1, need + 1, need + 256, 0]) } else { need };
+    Case { code: 20, arguments: vec![Argument::Limbs(points), Argument::Limbs(limb_room(r, length))] }
+}
+
+/// Precomputed Straus: tables built, or any entries below L.
+fn mixed(r: &mut Random, bad: &[u8]) -> Case {
+    let unequal = bad.contains(&9);
+    let pairs = Pairs::random(r, &bad.iter().copied().filter(|n| *n != 2 && *n != 9).collect::<Vec<_>>(), true);
+    let mut pairs = pairs;
+    let mut sp = if r.once_in(30) { 20 } else { r.below(4) };
+    if bad.contains(&10) {
+        sp = sp.max(1);
+    }
+    let mut sn = r.below(sp + 1);
+    if bad.contains(&2) {
+        match r.below(3) {
+            0 => sp = 65,
+            1 => sn = 1025,
+            _ => pairs = Pairs::new(r, 1025, 1025),
+        }
+    } else if unequal {
+        match r.below(3) {
+            0 => pairs.scalars.push(scalar(r)),
+            1 => {
+                pairs.points.push(element(r));
+                pairs.flags.push(1);
+            }
+            _ => sn = sp + 1,
+        }
+    }
+    engine_mixed(r, sp, sn, &pairs, bad)
+}
+
+/// A mixed case of sp tables, sn static scalars and these dynamic pairs.
+pub fn engine_mixed(r: &mut Random, sp: usize, sn: usize, pairs: &Pairs, bad: &[u8]) -> Case {
+    let p = element(r);
+    let mut tables: Vec<u64> = if sp > 20 {
+        vec![r.next() >> 4; 256 * sp]
+    } else if r.once_in(3) {
+        (0..64 * sp).flat_map(|_| element(r)).collect()
+    } else {
+        (0..sp).flat_map(|i| if i == 0 { odd_window(&p, 64) } else { odd_window(&element(r), 64) }).collect()
+    };
+    if bad.contains(&10) {
+        let at = 4 * r.below(64 * sp);
+        tables[at..at + 4].copy_from_slice(&large_element(r));
+    }
+    let mut fixed = Pairs::new(r, sn, 0);
+    if bad.contains(&6) && sn > 0 {
+        fixed.spoil(r, &[6]);
+    }
+    let mut torn = bad.to_vec();
+    let mut statics = bytes(&fixed.scalars);
+    if bad.contains(&1) && r.once_in(2) {
+        torn.retain(|n| *n != 1);
+        if r.once_in(2) { tear(r, &mut tables, 256, 0) } else { tear(r, &mut statics, 32, 0) }
+    }
+    let (s, limbs, f) = flatten(r, pairs, &torn, true);
+    let ns = pairs.scalars.len();
+    let (d, l) = room(r, 256 * (sn + ns), 32 * ns, bad);
+    let arguments = vec![
+        Argument::Limbs(tables),
+        Argument::Bytes(statics),
+        Argument::Bytes(s),
+        Argument::Limbs(limbs),
+        Argument::Bytes(f),
+        Argument::Digits(d),
+        Argument::Limbs(l),
+    ];
+    Case { code: 21, arguments }
+}
