@@ -3,12 +3,14 @@
 //!     differential run N SEED [PROGRAM]   compare, PROGRAM being the Rattle `replay`
 //!     differential fixed DIR              write DIR/stdin and DIR/stdout, a fixed list of cases and their lines
 //!     differential answer                 the plain reading's lines for cases on standard input
+//!     differential smallest               the smallest inputs of docs/DIFFERENCES.md, run
 
 mod onto_curve;
 mod replay;
 mod run;
 mod rust;
 mod side;
+mod smallest;
 mod sodium;
 
 use std::io::{Read, Write};
@@ -26,8 +28,9 @@ fn main() -> ExitCode {
         ["run", n, seed, program] => run::run(n.parse().unwrap(), seed.parse().unwrap(), Some(program.to_string())),
         ["fixed", folder] => fixed(folder),
         ["answer"] => answer(),
+        ["smallest"] => smallest::smallest(),
         _ => {
-            eprintln!("usage: differential run N SEED [PROGRAM] | fixed DIR | answer");
+            eprintln!("usage: differential run N SEED [PROGRAM] | fixed DIR | answer | smallest");
             false
         }
     };

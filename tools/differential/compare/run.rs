@@ -16,14 +16,14 @@ use crate::{onto_curve, replay};
 
 /// How many cases go to the program at once.
 const CHUNK: usize = 500;
-/// The curve is slow: all cases up to this many, then one in sixteen; lists up to this long.
-const ON_CURVE: usize = 4000;
+/// The curve is slow: all cases up to this many, then one in eight; lists up to this long.
+const ON_CURVE: usize = 20_000;
 const LONGEST: usize = 12;
 
 #[derive(Default)]
 struct Counts {
     cases: u64,
-    refused: u64,
+    numbers: BTreeMap<u8, u64>,
     replay: u64,
     debug: u64,
     optimised: u64,
@@ -37,7 +37,6 @@ struct Run {
     sodium: Option<Sodium>,
     calls: BTreeMap<u8, Counts>,
     names: BTreeMap<&'static str, u64>,
-    numbers: BTreeMap<u8, u64>,
     multi: u64,
     seen: usize,
     differ: u64,
@@ -52,7 +51,6 @@ pub fn run(n: usize, seed: u64, program: Option<String>) -> bool {
         sodium: Sodium::find(),
         calls: BTreeMap::new(),
         names: BTreeMap::new(),
-        numbers: BTreeMap::new(),
         multi: 0,
         seen: 0,
         differ: 0,
@@ -102,10 +100,9 @@ impl Run {
             self.seen += 1;
             let counts = self.calls.entry(case.code).or_default();
             counts.cases += 1;
-            counts.refused += (said.number != 0) as u64;
-            *self.numbers.entry(said.number).or_default() += 1;
+            *counts.numbers.entry(said.number).or_default() += 1;
             self.residues(case, said);
-            if short(case) && (self.seen <= ON_CURVE || self.seen.is_multiple_of(16)) {
+            if short(case) && (self.seen <= ON_CURVE || self.seen.is_multiple_of(8)) {
                 self.curve(case, said);
             }
         }
@@ -172,11 +169,14 @@ impl Run {
 
     fn report(&self, n: usize) {
         let sum = |f: fn(&Counts) -> u64| self.calls.values().map(f).sum::<u64>();
-        println!("{:<52}{:>8}{:>9}{:>8}{:>8}{:>11}{:>7}{:>8}", "call", "cases", "refused", "replay", "debug", "optimised", "curve", "sodium");
+        println!("call, and its cases: all, by replay, by the debug and the optimised build, on the curve, by libsodium; answers by number");
         for (code, c) in &self.calls {
-            println!("{:<52}{:>8}{:>9}{:>8}{:>8}{:>11}{:>7}{:>8}", name(*code), c.cases, c.refused, c.replay, c.debug, c.optimised, c.curve, c.sodium);
+            let numbers: Vec<String> = c.numbers.iter().map(|(n, times)| format!("{n}:{times}")).collect();
+            println!(
+                "{:<50}{:>7}{:>7}{:>7}{:>7}{:>7}{:>6}  {}",
+                name(*code), c.cases, c.replay, c.debug, c.optimised, c.curve, c.sodium, numbers.join(" ")
+            );
         }
-        println!("answers by number: {:?}", self.numbers);
         println!("differences that docs/DIFFERENCES.md names, in either build:");
         for (name, times) in &self.names {
             println!("  {times:>7} {name}");

@@ -117,3 +117,16 @@ fn odd_multiples() -> bool {
     let built = NafLookupTable8::<AffineNielsPoint>::from(&constants::ED25519_BASEPOINT_POINT);
     built.0 == constants::AFFINE_ODD_MULTIPLES_OF_BASEPOINT.0
 }
+
+/// What the crate does where its comments say otherwise, and where the curve has more than residues.
+pub fn comments() -> std::string::String {
+    let order = constants::BASEPOINT_ORDER;
+    let canonical: Option<Scalar> = Scalar::from_canonical_bytes(order.to_bytes()).into();
+    let torsion = variable_base::mul(&constants::EIGHT_TORSION[1], &order);
+    let five = constants::EIGHT_TORSION[5];
+    std::format!(
+        "from_canonical_bytes(L): {}; L times a point of order 8 is 5 times it: {}",
+        if canonical.is_some() { "Some" } else { "None" },
+        torsion == five
+    )
+}

@@ -128,14 +128,12 @@ fn limits(r: &mut Random, cases: &mut Vec<Case>) {
     }
     for ns in [499, 500, 799, 800] {
         let mut list = Pairs::new(r, ns, 3);
-        let s = scalar(r);
-        list.scalars.fill(s);
+        list.scalars.fill(even_scalar(r));
         cases.push(engine(r, 22, &list, &[]));
     }
     let mut even = Pairs::new(r, 1024, 1024);
-    let (s, p) = (scalar(r), element(r));
-    even.scalars.fill(s);
-    even.points.fill(p);
+    even.scalars.fill(even_scalar(r));
+    even.points.fill(even_element(r));
     cases.push(engine_mixed(r, 1, 1, &even, &[]));
     cases.push(prepare_pairs(r, &even, &[]));
     let none = Pairs::new(r, 0, 0);

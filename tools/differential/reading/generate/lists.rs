@@ -24,9 +24,9 @@ pub fn few(r: &mut Random) -> usize {
 }
 
 impl Pairs {
-    /// Lists of these lengths; long ones repeat one value.
+    /// Lists of these lengths; those past the limit repeat one value.
     pub fn new(r: &mut Random, ns: usize, np: usize) -> Pairs {
-        let (s, p) = (scalar(r), element(r));
+        let (s, p) = (even_scalar(r), even_element(r));
         let long = ns.max(np) > 1024;
         Pairs {
             scalars: (0..ns).map(|_| if long { s } else { scalar(r) }).collect(),
@@ -40,6 +40,10 @@ impl Pairs {
         let (mut ns, mut np) = (few(r), few(r));
         if equal || !r.once_in(4) {
             np = ns;
+        }
+        if r.once_in(1500) {
+            ns = r.pick(&[499, 500, 799, 800, 1023, 1024]);
+            np = if equal || r.once_in(2) { ns } else { r.pick(&[0, 3, 499, 500, 1024]) };
         }
         if bad.contains(&2) {
             (ns, np) = r.pick(&[(1025, 1025), (1025, 1), (1, 1025), (0, 1025), (1025, 1024)]);

@@ -46,7 +46,8 @@ pub fn random(r: &mut Random) -> Vec<Case> {
     if r.once_in(40) {
         return batches::story(r);
     }
-    let code = 1 + r.below(26) as u8;
+    // engines and batches more often
+    let code = if r.once_in(2) { 16 + r.below(11) as u8 } else { 1 + r.below(26) as u8 };
     let numbers = refusals(code);
     let mut bad = Vec::new();
     if r.once_in(3) {

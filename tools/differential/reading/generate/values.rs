@@ -113,6 +113,15 @@ pub fn large_element(r: &mut Random) -> Limbs {
     }
 }
 
+/// A scalar of one byte throughout and an element of one limb: lists of them are recorded in a few bytes.
+pub fn even_scalar(r: &mut Random) -> Limbs {
+    number::from_bytes(&[r.below(128) as u8; 32])
+}
+
+pub fn even_element(r: &mut Random) -> Limbs {
+    [r.next() >> 4; 4]
+}
+
 /// A width outside of every kind.
 pub fn bad_width(r: &mut Random) -> u64 {
     r.pick(&[0, 1, 9, 10, 16, 64, 255, 256, 261, 1 << 32, (1 << 32) + 5, u64::MAX - 3, u64::MAX])
