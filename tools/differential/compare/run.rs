@@ -58,6 +58,9 @@ pub fn run(n: usize, seed: u64, program: Option<String>) -> bool {
     if !curve25519_dalek::probe::sound() {
         run.say("our curve files against published numbers".into());
     }
+    if !reading::sheet::holds() {
+        run.say("the plain reading against the bench sheet of document 01".into());
+    }
     let r = &mut Random::new(seed);
     let mut cases: Vec<Case> = generate::ends(r);
     cases.truncate(n);
@@ -76,6 +79,7 @@ pub fn run(n: usize, seed: u64, program: Option<String>) -> bool {
         run.chunk(&cases);
         cases = rest;
     }
+    run.malformed();
     run.report(n);
     run.differ == 0
 }
@@ -91,7 +95,7 @@ impl Run {
     fn chunk(&mut self, cases: &[Case]) {
         let said: Vec<Answer> = cases.iter().map(calls::answer).collect();
         if let Some(program) = self.program.clone() {
-            match replay::lines(&program, cases) {
+            match replay::lines(&program, replay::recorded(cases)) {
                 Ok(lines) => self.lines(cases, &said, &lines),
                 Err(text) => self.say(text),
             }
@@ -120,6 +124,22 @@ impl Run {
         }
         if lines.len() > cases.len() {
             self.say("replay has more lines than cases".into());
+        }
+    }
+
+    /// Malformed input: the lines up to it, and then the one that says where.
+    fn malformed(&mut self) {
+        let Some(program) = self.program.clone() else { return };
+        let r = &mut Random::new(9);
+        let cases = [generate::case(r, 16, &[]), generate::case(r, 19, &[])];
+        let due = [calls::answer(&cases[0]).line(), "malformed at case 2".into()];
+        for input in replay::malformed(&cases) {
+            let shown = cut(&reading::answer::hex(&input));
+            match replay::lines(&program, input) {
+                Ok(lines) if lines == due => {}
+                Ok(lines) => self.say(format!("malformed input: replay {}\n  input {shown}", cut(&lines.join(" | ")))),
+                Err(text) => self.say(text),
+            }
         }
     }
 

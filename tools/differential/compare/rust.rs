@@ -7,7 +7,7 @@
 use reading::answer::{Answer, Value};
 use reading::calls::entry;
 use reading::case::Case;
-use reading::engines::{entries, naf_weight, pippenger_counts, pippenger_width, products, start_place};
+use reading::engines::{entries, naf_weight, pippenger_counts, pippenger_width, products, start_place, width_count};
 use reading::lists::{element_too_large, elements, point_refused, scalars, torn};
 use reading::number::{self, L, Limbs, ONE, ZERO};
 use reading::rows::{naf, radix, weight};
@@ -47,8 +47,8 @@ pub fn compare(side: &Side, case: &Case, said: &Answer) -> Check {
         8 | 9 => reader(side, case, said),
         10..=12 => window(side, case, said),
         13..=15 => lookup(side, case),
-        16 => single(side, case),
-        17 => double(side, case),
+        16 => single(side, case, said),
+        17 => double(side, case, said),
         18 => straus(side, case, said),
         19 => straus_optional(side, case, said),
         20 => tables(side, case, said),
@@ -122,7 +122,7 @@ fn recoding(side: &Side, case: &Case, said: &Answer) -> Check {
         };
     }
     let due = if case.code == 5 { naf(&s, w).to_vec() } else { radix(&s, w).to_vec() };
-    let names = named(&[(large(&s), LARGE)]);
+    let names = named(&[(said.number == 6 || large(&s), LARGE)]);
     if large(&s) && side.checked && case.code != 5 && w == 4 {
         return same(side, got, End::Panic, names);
     }
@@ -204,21 +204,21 @@ fn lookup(side: &Side, case: &Case) -> Check {
     same(side, got, due, names)
 }
 
-fn single(side: &Side, case: &Case) -> Check {
+fn single(side: &Side, case: &Case, said: &Answer) -> Check {
     let (point, scalar) = (case.limbs(0), case.bytes(1));
     if point.len() != 4 || scalar.len() != 32 || element_too_large(point) {
         return Ok(Found::NotRun);
     }
     let (p, s) = (elements(point)[0], number::from_bytes(scalar));
     let got = side.run(|| (side.variable_base)(p, array(scalar)));
-    let names = named(&[(large(&s), LARGE)]);
+    let names = named(&[(said.number == 6 || large(&s), LARGE)]);
     if large(&s) && side.checked {
         return same(side, got, End::Panic, names);
     }
     same(side, got, End::Done(number::multiplied(&radix_effective(&s), &p), 71, 252), names)
 }
 
-fn double(side: &Side, case: &Case) -> Check {
+fn double(side: &Side, case: &Case, said: &Answer) -> Check {
     let (a, point, b) = (case.bytes(0), case.limbs(1), case.bytes(2));
     if a.len() != 32 || b.len() != 32 || point.len() != 4 || element_too_large(point) {
         return Ok(Found::NotRun);
@@ -229,7 +229,7 @@ fn double(side: &Side, case: &Case) -> Check {
     let (row_a, row_b) = (naf(&sa, 5), naf(&sb, 8));
     let value = products(&[naf_effective(&sa, 5), naf_effective(&sb, 8)], &[p, ONE]);
     let due = End::Done(value, 7 + weight(&row_a) + weight(&row_b), start_place(&row_a, &row_b) + 2);
-    same(side, got, due, named(&[(large(&sa) || large(&sb), LARGE)]))
+    same(side, got, due, named(&[(said.number == 6 || large(&sa) || large(&sb), LARGE)]))
 }
 
 /// Whole lists of scalars and points below L.
@@ -249,7 +249,7 @@ fn straus(side: &Side, case: &Case, said: &Answer) -> Check {
     let names = named(&[
         (said.number == 2, MANY),
         (said.number == 5, ROOM),
-        (any_large(bytes), LARGE),
+        (said.number == 6 || any_large(bytes), LARGE),
         (p.len() > m, WINDOWS),
     ]);
     if any_large(bytes) && side.checked {
@@ -280,7 +280,7 @@ fn straus_optional(side: &Side, case: &Case, said: &Answer) -> Check {
     let names = named(&[
         (said.number == 2, MANY),
         (said.number == 5, ROOM),
-        (any_large(bytes), LARGE),
+        (said.number == 6 || any_large(bytes), LARGE),
         (p.len() > m, WINDOWS),
     ]);
     let effective: Vec<Limbs> = s.iter().map(|s| naf_effective(s, 5)).collect();
@@ -301,8 +301,8 @@ fn pippenger(side: &Side, case: &Case, said: &Answer) -> Check {
     let names = named(&[
         (said.number == 2, MANY),
         (said.number == 5, ROOM),
-        (any_large(bytes), LARGE),
-        (w != pippenger_width(m), PIPPENGER),
+        (said.number == 6 || any_large(bytes), LARGE),
+        (w != pippenger_width(width_count(s.len(), m)), PIPPENGER),
     ]);
     let (additions, doublings) = pippenger_counts(&s[..m], w);
     same(side, got, End::Done(products(&s[..m], &p), additions, doublings), names)
@@ -341,7 +341,7 @@ fn mixed(side: &Side, case: &Case, said: &Answer) -> Check {
     let names = named(&[
         (said.number == 2, MANY),
         (said.number == 5, ROOM),
-        (any_large(fixed) || any_large(dynamic), LARGE),
+        (said.number == 6 || any_large(fixed) || any_large(dynamic), LARGE),
     ]);
     let effective: Vec<Limbs> = s.iter().map(|s| naf_effective(s, 5)).collect();
     let still = f.iter().enumerate().map(|(i, s)| entries(&naf(s, 8), &table[64 * i..64 * i + 64]));

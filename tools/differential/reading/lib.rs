@@ -9,3 +9,4 @@ pub mod lists;
 pub mod number;
 pub mod random;
 pub mod rows;
+pub mod sheet;

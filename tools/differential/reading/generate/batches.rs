@@ -1,6 +1,6 @@
 //! Cases of prepared batches: preparing, edits, totals, and stories that carry memory from one to the next.
 
-use super::lists::{Pairs, few, flatten};
+use super::lists::{OVER, Pairs, few, flatten};
 use super::values::*;
 use crate::answer::Lent;
 use crate::calls::{self, odd_window};
@@ -48,7 +48,7 @@ fn slot(r: &mut Random, slots: usize, bad: &[u8]) -> u64 {
 /// Memory of a few slots: prepared, or whatever passes, or for edits whatever there is.
 fn memory(r: &mut Random, code: u8, bad: &[u8]) -> (Vec<i8>, Vec<u64>) {
     let slots = match () {
-        _ if bad.contains(&2) => 1025,
+        _ if bad.contains(&2) => OVER,
         _ if bad.contains(&4) => r.below(4),
         _ if code == 26 && !bad.contains(&10) => r.below(5),
         _ => 1 + r.below(4),

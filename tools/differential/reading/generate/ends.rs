@@ -1,10 +1,11 @@
 //! The ends: every refusal alone and with the next higher, every width, the limits, and digits at their extremes.
 
-use super::lists::{Pairs, engine, engine_mixed, tables};
 use super::batches::prepare_pairs;
+use super::lists::{OVER, Pairs, engine, engine_mixed, tables};
 use super::values::*;
 use super::{case, refusals};
 use crate::case::{Argument, Case};
+use crate::lists::{MOST, MOST_STATIC};
 use crate::number::{self, Limbs};
 use crate::random::Random;
 use crate::rows::{naf, radix};
@@ -109,16 +110,19 @@ fn lookups(r: &mut Random, cases: &mut Vec<Case>) {
     }
 }
 
+/// The most static points.
+const S: usize = MOST_STATIC;
+
 /// Long lists: where Pippenger's width changes, the limits, and one more.
 fn limits(r: &mut Random, cases: &mut Vec<Case>) {
-    for n in [499, 500, 799, 800, 1024] {
+    for n in [499, 500, 799, 800, MOST] {
         let list = Pairs::new(r, n, n);
         cases.push(engine(r, 22, &list, &[]));
     }
-    let whole = Pairs::new(r, 1024, 1024);
+    let whole = Pairs::new(r, MOST, MOST);
     cases.push(engine(r, 18, &whole, &[]));
     cases.push(engine(r, 19, &whole, &[]));
-    for (ns, np) in [(1025, 1024), (1024, 1025), (1025, 1025)] {
+    for (ns, np) in [(OVER, MOST), (MOST, OVER), (OVER, OVER)] {
         let list = Pairs::new(r, ns, np);
         for code in [18, 19, 22] {
             cases.push(engine(r, code, &list, &[]));
@@ -131,24 +135,24 @@ fn limits(r: &mut Random, cases: &mut Vec<Case>) {
         list.scalars.fill(even_scalar(r));
         cases.push(engine(r, 22, &list, &[]));
     }
-    let mut even = Pairs::new(r, 1024, 1024);
+    let mut even = Pairs::new(r, MOST, MOST);
     even.scalars.fill(even_scalar(r));
     even.points.fill(even_element(r));
     cases.push(engine_mixed(r, 1, 1, &even, &[]));
     cases.push(prepare_pairs(r, &even, &[]));
     let none = Pairs::new(r, 0, 0);
-    for (sp, sn) in [(64, 64), (64, 65), (65, 65), (64, 1024), (64, 1025)] {
+    for (sp, sn) in [(S, S), (S, S + 1), (S + 1, S + 1), (S, MOST), (S, OVER)] {
         cases.push(engine_mixed(r, sp, sn, &none, &[]));
     }
     cases.push(tables(r, &[2]));
-    let many = flat(&Pairs::new(r, 0, 64).points);
-    cases.push(Case { code: 20, arguments: vec![Argument::Limbs(many), Argument::Limbs(vec![7; 64 * 256])] });
+    let many = flat(&Pairs::new(r, 0, S).points);
+    cases.push(Case { code: 20, arguments: vec![Argument::Limbs(many), Argument::Limbs(vec![7; 256 * S])] });
     slots(r, cases);
 }
 
-/// Prepared memory of 1,024 and 1,025 slots, of one digit and one limb throughout.
+/// Prepared memory of as many slots as there may be, and one more, of one digit and one limb throughout.
 fn slots(r: &mut Random, cases: &mut Vec<Case>) {
-    for k in [1024, 1025] {
+    for k in [MOST, OVER] {
         let memory = [Argument::Digits(vec![-15; 256 * k]), Argument::Limbs(vec![r.next() >> 4; 32 * k])];
         for (code, slot) in [(24, k as u64 - 1), (24, k as u64), (25, 0), (25, k as u64), (26, 0)] {
             let mut arguments = memory.to_vec();

@@ -4,8 +4,12 @@ use super::values::*;
 use crate::calls::odd_window;
 use crate::case::{Argument, Case};
 use crate::engines::{pippenger_width, width_count};
+use crate::lists::{MOST, MOST_STATIC};
 use crate::number::Limbs;
 use crate::random::Random;
+
+/// One more than any list may have.
+pub const OVER: usize = MOST + 1;
 
 /// Lists of pairs before they are flattened, so that any number can be made to hold.
 pub struct Pairs {
@@ -27,7 +31,7 @@ impl Pairs {
     /// Lists of these lengths; those past the limit repeat one value.
     pub fn new(r: &mut Random, ns: usize, np: usize) -> Pairs {
         let (s, p) = (even_scalar(r), even_element(r));
-        let long = ns.max(np) > 1024;
+        let long = ns.max(np) > MOST;
         Pairs {
             scalars: (0..ns).map(|_| if long { s } else { scalar(r) }).collect(),
             points: (0..np).map(|_| if long { p } else { element(r) }).collect(),
@@ -42,11 +46,11 @@ impl Pairs {
             np = ns;
         }
         if r.once_in(1500) {
-            ns = r.pick(&[499, 500, 799, 800, 1023, 1024]);
-            np = if equal || r.once_in(2) { ns } else { r.pick(&[0, 3, 499, 500, 1024]) };
+            ns = r.pick(&[499, 500, 799, 800, MOST - 1, MOST]);
+            np = if equal || r.once_in(2) { ns } else { r.pick(&[0, 3, 499, 500, MOST]) };
         }
         if bad.contains(&2) {
-            (ns, np) = r.pick(&[(1025, 1025), (1025, 1), (1, 1025), (0, 1025), (1025, 1024)]);
+            (ns, np) = r.pick(&[(OVER, OVER), (OVER, 1), (1, OVER), (0, OVER), (OVER, MOST)]);
         }
         if bad.iter().any(|n| [5, 6].contains(n)) {
             ns = ns.max(1);
@@ -170,9 +174,9 @@ fn past_the_last(r: &mut Random) -> Case {
 /// Static tables of a few points.
 pub fn tables(r: &mut Random, bad: &[u8]) -> Case {
     let n = match () {
-        _ if bad.contains(&2) => 65,
+        _ if bad.contains(&2) => MOST_STATIC + 1,
         _ if bad.contains(&5) || bad.contains(&7) => 1 + r.below(3),
-        _ if r.once_in(30) => 64,
+        _ if r.once_in(30) => MOST_STATIC,
         _ => r.below(4),
     };
     let mut pairs = Pairs::new(r, 0, n);
@@ -201,9 +205,9 @@ fn mixed(r: &mut Random, bad: &[u8]) -> Case {
     let mut sn = r.below(sp + 1);
     if bad.contains(&2) {
         match r.below(3) {
-            0 => sp = 65,
-            1 => sn = 1025,
-            _ => pairs = Pairs::new(r, 1025, 1025),
+            0 => sp = MOST_STATIC + 1,
+            1 => sn = OVER,
+            _ => pairs = Pairs::new(r, OVER, OVER),
         }
     } else if unequal {
         match r.below(3) {
