@@ -118,7 +118,13 @@ impl Run {
             let due = said.line();
             match lines.get(i) {
                 Some(line) if *line == due => self.calls.entry(case.code).or_default().replay += 1,
-                Some(line) => self.say(format!("{}: replay {}\n  due {}\n  case {}", name(case.code), cut(line), cut(&due), shown(case))),
+                Some(line) => self.say(format!(
+                    "{}: replay {}\n  due {}\n  case {}",
+                    name(case.code),
+                    cut(line),
+                    cut(&due),
+                    shown(case)
+                )),
                 None => self.say(format!("{}: replay has no line", name(case.code))),
             }
         }
@@ -189,12 +195,21 @@ impl Run {
 
     fn report(&self, n: usize) {
         let sum = |f: fn(&Counts) -> u64| self.calls.values().map(f).sum::<u64>();
-        println!("call, and its cases: all, by replay, by the debug and the optimised build, on the curve, by libsodium; answers by number");
+        println!(
+            "call, and its cases: all, by replay, by the debug and the optimised build, on the curve, by libsodium; answers by number"
+        );
         for (code, c) in &self.calls {
             let numbers: Vec<String> = c.numbers.iter().map(|(n, times)| format!("{n}:{times}")).collect();
             println!(
                 "{:<50}{:>7}{:>7}{:>7}{:>7}{:>7}{:>6}  {}",
-                name(*code), c.cases, c.replay, c.debug, c.optimised, c.curve, c.sodium, numbers.join(" ")
+                name(*code),
+                c.cases,
+                c.replay,
+                c.debug,
+                c.optimised,
+                c.curve,
+                c.sodium,
+                numbers.join(" ")
             );
         }
         println!("differences that docs/DIFFERENCES.md names, in either build:");
@@ -203,7 +218,12 @@ impl Run {
         }
         println!(
             "replay {}, debug build {}, optimised build {}, curve {} ({} of several points), libsodium {}",
-            sum(|c| c.replay), sum(|c| c.debug), sum(|c| c.optimised), sum(|c| c.curve), self.multi, sum(|c| c.sodium)
+            sum(|c| c.replay),
+            sum(|c| c.debug),
+            sum(|c| c.optimised),
+            sum(|c| c.curve),
+            self.multi,
+            sum(|c| c.sodium)
         );
         if self.program.is_none() {
             println!("replay is not built: only the plain reading and the Rust were compared");

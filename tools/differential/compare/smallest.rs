@@ -57,12 +57,24 @@ fn engines(side: &Side) {
     let one = bytes(&ONE);
     show("straus, no scalar and point 1", side.run(|| (side.straus)(&[], &[ONE])));
     show("straus optional, no scalar and point 1", side.run_optional(|| (side.straus_optional)(&[], &[Some(ONE)])));
-    show("straus optional, scalar 1 and points 1, absent", side.run_optional(|| (side.straus_optional)(&[one], &[Some(ONE), None])));
-    show("straus optional, scalar 2^255, absent", side.run_optional(|| (side.straus_optional)(&[bytes(&TOP)], &[None])));
+    show(
+        "straus optional, scalar 1 and points 1, absent",
+        side.run_optional(|| (side.straus_optional)(&[one], &[Some(ONE), None])),
+    );
+    show(
+        "straus optional, scalar 2^255, absent",
+        side.run_optional(|| (side.straus_optional)(&[bytes(&TOP)], &[None])),
+    );
     for n in [499, 500, 799, 800] {
-        show(&format!("pippenger, {n} scalars 0 and no point"), side.run_optional(|| (side.pippenger)(&vec![[0; 32]; n], &[])));
+        show(
+            &format!("pippenger, {n} scalars 0 and no point"),
+            side.run_optional(|| (side.pippenger)(&vec![[0; 32]; n], &[])),
+        );
     }
-    show("pippenger, scalar 1 and points 1, absent", side.run_optional(|| (side.pippenger)(&[one], &[Some(ONE), None])));
+    show(
+        "pippenger, scalar 1 and points 1, absent",
+        side.run_optional(|| (side.pippenger)(&[one], &[Some(ONE), None])),
+    );
     show("straus, 1025 pairs (1, 1)", side.run(|| (side.straus)(&vec![one; 1025], &vec![ONE; 1025])));
     show("mixed, a static scalar without a table", side.run_optional(|| (side.mixed)(&[], &[one], &[], &[])));
     show("mixed, a dynamic scalar without a point", side.run_optional(|| (side.mixed)(&[], &[], &[one], &[])));
@@ -102,7 +114,10 @@ fn row(end: End<Vec<i8>>) -> String {
 
 fn recodings(side: &Side) {
     for (w, s) in [(0, 1), (1, 1), (1, 2), (9, 129), (16, 129)] {
-        println!("naf of {s}, width {w}: {}", row(side.run(|| (side.non_adjacent_form)(bytes(&[s, 0, 0, 0]), w).to_vec())));
+        println!(
+            "naf of {s}, width {w}: {}",
+            row(side.run(|| (side.non_adjacent_form)(bytes(&[s, 0, 0, 0]), w).to_vec()))
+        );
     }
     for (w, s) in [(0, 0), (3, 0), (9, 128), (9, 256)] {
         println!("radix of {s}, width {w}: {}", row(side.run(|| (side.as_radix_2w)(bytes(&[s, 0, 0, 0]), w).to_vec())));
@@ -148,13 +163,38 @@ fn said() {
     say("straus optional, no scalar and point 1", 19, vec![s(&[]), p(&[ONE]), flags(&[1])], &room(0, 0));
     say("straus optional, scalar 2^255, absent", 19, vec![s(&[TOP]), p(&[ZERO]), flags(&[0])], &room(256, 32));
     for n in [499, 500, 799, 800] {
-        say(&format!("pippenger, {n} scalars 0 and no point"), 22, vec![s(&vec![ZERO; n]), p(&[]), flags(&[])], &room(0, 512));
+        say(
+            &format!("pippenger, {n} scalars 0 and no point"),
+            22,
+            vec![s(&vec![ZERO; n]), p(&[]), flags(&[])],
+            &room(0, 512),
+        );
     }
-    say("pippenger, scalar 1 and points 1, absent", 22, vec![s(&[ONE]), p(&[ONE, ZERO]), flags(&[1, 0])], &room(64, 128));
+    say(
+        "pippenger, scalar 1 and points 1, absent",
+        22,
+        vec![s(&[ONE]), p(&[ONE, ZERO]), flags(&[1, 0])],
+        &room(64, 128),
+    );
     say("straus, 1025 pairs (1, 1)", 18, vec![s(&vec![ONE; 1025]), p(&vec![ONE; 1025])], &room(65600, 32800));
-    say("mixed, a static scalar without a table", 21, vec![p(&[]), s(&[ONE]), s(&[]), p(&[]), flags(&[])], &room(256, 0));
-    say("mixed, a dynamic scalar without a point", 21, vec![p(&[]), s(&[]), s(&[ONE]), p(&[]), flags(&[])], &room(256, 32));
-    say("mixed, a static scalar without a table and an absent point", 21, vec![p(&[]), s(&[ONE]), s(&[]), p(&[ONE]), flags(&[0])], &room(256, 0));
+    say(
+        "mixed, a static scalar without a table",
+        21,
+        vec![p(&[]), s(&[ONE]), s(&[]), p(&[]), flags(&[])],
+        &room(256, 0),
+    );
+    say(
+        "mixed, a dynamic scalar without a point",
+        21,
+        vec![p(&[]), s(&[]), s(&[ONE]), p(&[]), flags(&[])],
+        &room(256, 32),
+    );
+    say(
+        "mixed, a static scalar without a table and an absent point",
+        21,
+        vec![p(&[]), s(&[ONE]), s(&[]), p(&[ONE]), flags(&[0])],
+        &room(256, 0),
+    );
 }
 
 /// What the crate's comments say otherwise than its code.
@@ -166,7 +206,11 @@ fn comments() {
     for (w, least) in [(5, 1008), (6, 4064), (7, 16320), (8, 65408)] {
         let s = [least, 0, 0, 0];
         let below = number::minus(s, ONE);
-        println!("window and carry at place 1 of {least}, width {w}: {}; of one less: {}", coefficient(&s, w), coefficient(&below, w));
+        println!(
+            "window and carry at place 1 of {least}, width {w}: {}; of one less: {}",
+            coefficient(&s, w),
+            coefficient(&below, w)
+        );
         println!("  radix 2^{w} of 2^255-1: {}", row(side.run(|| (side.as_radix_2w)(bytes(&top), w).to_vec())));
     }
     println!("{}", curve25519_dalek::probe::comments());

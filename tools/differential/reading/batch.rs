@@ -1,8 +1,8 @@
 //! Static tables and prepared batches: memory that calls build, edit and total.
 
 use crate::answer::{Answer, Lent, Value};
-use crate::case::Case;
 use crate::calls::odd_window;
+use crate::case::Case;
 use crate::engines::entries;
 use crate::lists::*;
 use crate::number::{self, Limbs, ZERO};

@@ -46,10 +46,8 @@ fn plain(number: u8, empty: Value, value: impl FnOnce() -> Value) -> Answer {
 /// add, subtract, negate, double.
 fn group(case: &Case) -> Answer {
     let lists: Vec<&[u64]> = (0..case.arguments.len()).map(|i| case.limbs(i)).collect();
-    let number = lowest(&[
-        (1, lists.iter().any(|list| list.len() != 4)),
-        (7, lists.iter().any(|list| element_too_large(list))),
-    ]);
+    let number =
+        lowest(&[(1, lists.iter().any(|list| list.len() != 4)), (7, lists.iter().any(|list| element_too_large(list)))]);
     plain(number, Value::Element(ZERO), || {
         let e: Vec<Limbs> = lists.iter().map(|list| elements(list)[0]).collect();
         Value::Element(match case.code {
@@ -66,11 +64,8 @@ type Widths = std::ops::RangeInclusive<u64>;
 fn recoded(case: &Case, widths: Widths, places: usize, row: impl Fn(&Limbs, usize) -> Vec<i8>) -> Answer {
     let scalar = case.bytes(0);
     let w = if case.arguments.len() == 2 { case.number(1) } else { 4 };
-    let number = lowest(&[
-        (1, scalar.len() != 32),
-        (3, !widths.contains(&w)),
-        (6, scalars(scalar).iter().any(above_row_bound)),
-    ]);
+    let number =
+        lowest(&[(1, scalar.len() != 32), (3, !widths.contains(&w)), (6, scalars(scalar).iter().any(above_row_bound))]);
     plain(number, Value::Row(vec![0; places]), || Value::Row(row(&number::from_bytes(scalar), w as usize)))
 }
 
@@ -114,10 +109,8 @@ fn lookup(case: &Case) -> Answer {
     let length = if case.code == 15 { 256 } else { 32 };
     let identity = case.code == 13 && d == 0;
     let named = entry(case.code, d);
-    let number = lowest(&[
-        (1, window.len() != length),
-        (10, element_too_large(window) || named.is_none() && !identity),
-    ]);
+    let number =
+        lowest(&[(1, window.len() != length), (10, element_too_large(window) || named.is_none() && !identity)]);
     plain(number, Value::Element(ZERO), || {
         let found = named.map_or(ZERO, |k| elements(window)[k]);
         Value::Element(if d < 0 { number::negated(&found) } else { found })

@@ -68,7 +68,12 @@ fn answered(number: u8, lent: [Lent; 2], sum: impl FnOnce() -> (Sum, [Lent; 2]))
         return Answer::refused(number, Value::Element(ZERO), true, lent.to_vec());
     }
     let (sum, lent) = sum();
-    Answer { number, value: Value::Element(sum.value), counts: Some((sum.additions, sum.doublings)), lent: lent.to_vec() }
+    Answer {
+        number,
+        value: Value::Element(sum.value),
+        counts: Some((sum.additions, sum.doublings)),
+        lent: lent.to_vec(),
+    }
 }
 
 fn without_room(number: u8, sum: impl FnOnce() -> Sum) -> Answer {
@@ -95,11 +100,7 @@ pub fn single(case: &Case) -> Answer {
         (6, scalar_too_large(scalar)),
         (7, element_too_large(point)),
     ]);
-    without_room(number, || Sum {
-        value: products(&scalars(scalar), &elements(point)),
-        additions: 71,
-        doublings: 252,
-    })
+    without_room(number, || Sum { value: products(&scalars(scalar), &elements(point)), additions: 71, doublings: 252 })
 }
 
 /// Double base: additions 7 + weight, doublings the start place + 2.

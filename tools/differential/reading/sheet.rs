@@ -40,7 +40,8 @@ fn rows() -> bool {
 
 /// Number, value and counts of an engine over lists, with room enough.
 fn engine(code: u8, s: &[Limbs], p: &[Limbs], flags: &[u8]) -> (u8, Limbs, (u64, u64)) {
-    let mut arguments = vec![Argument::Bytes(s.iter().flat_map(number::to_bytes).collect()), Argument::Limbs(p.concat())];
+    let mut arguments =
+        vec![Argument::Bytes(s.iter().flat_map(number::to_bytes).collect()), Argument::Limbs(p.concat())];
     if code != 18 {
         arguments.push(Argument::Bytes(flags.to_vec()));
     }

@@ -99,10 +99,8 @@ pub fn tables(p: &[Limbs]) -> Vec<Limbs> {
 
 /// The mixed sum over static tables as they stand, 64 entries each.
 pub fn mixed(tables: &[Limbs], fixed: &[[u8; 32]], s: &[[u8; 32]], p: &[Option<Limbs>]) -> Option<Limbs> {
-    let static_lookup_tables = tables
-        .chunks(64)
-        .map(|t| NafLookupTable8(core::array::from_fn(|i| AffineNielsPoint(Residue(t[i])))))
-        .collect();
+    let static_lookup_tables =
+        tables.chunks(64).map(|t| NafLookupTable8(core::array::from_fn(|i| AffineNielsPoint(Residue(t[i]))))).collect();
     VartimePrecomputedStraus { static_lookup_tables }
         .optional_mixed_multiscalar_mul(scalars(fixed), scalars(s), optional(p))
         .map(|q| q.0.0)

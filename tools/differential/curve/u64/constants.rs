@@ -14,9 +14,8 @@ pub(crate) const EDWARDS_D2: F = EDWARDS_D.plus(EDWARDS_D);
 pub(crate) const SQRT_M1: F = F::small(2).power([u64::MAX - 4, u64::MAX, u64::MAX, u64::MAX >> 3]);
 
 /// RFC 9496, 4.1; its square times -1-d is 1, which `probe::sound` looks at.
-pub(crate) const INVSQRT_A_MINUS_D: F = number([
-    0x786c8905cfaffca2, 0x16c27b91fe01d840, 0x9d2f16175a4172be, 0x99c8fdaa805d40ea,
-]);
+pub(crate) const INVSQRT_A_MINUS_D: F =
+    number([0x786c8905cfaffca2, 0x16c27b91fe01d840, 0x9d2f16175a4172be, 0x99c8fdaa805d40ea]);
 
 /// (A + 2)/4 with A = 486662 of the Montgomery form.
 pub(crate) const APLUS2_OVER_FOUR: F = F::small(121666);
@@ -40,10 +39,8 @@ pub const EIGHT_TORSION: [EdwardsPoint; 8] = multiples(
 );
 
 /// 1B, 3B, .. 127B.
-pub(crate) static AFFINE_ODD_MULTIPLES_OF_BASEPOINT: NafLookupTable8<AffineNielsPoint> = NafLookupTable8(niels(multiples(
-    ED25519_BASEPOINT_POINT,
-    sum(ED25519_BASEPOINT_POINT, ED25519_BASEPOINT_POINT),
-)));
+pub(crate) static AFFINE_ODD_MULTIPLES_OF_BASEPOINT: NafLookupTable8<AffineNielsPoint> =
+    NafLookupTable8(niels(multiples(ED25519_BASEPOINT_POINT, sum(ED25519_BASEPOINT_POINT, ED25519_BASEPOINT_POINT))));
 
 /// Window i of the fixed-base table: 1 to 8 times 256^i B.
 static TABLE: EdwardsBasepointTable = EdwardsBasepointTable(fixed_base());
@@ -102,11 +99,7 @@ const fn niels<const N: usize>(points: [EdwardsPoint; N]) -> [AffineNielsPoint; 
         let z = inverse.times(before[i]);
         inverse = inverse.times(points[i].Z);
         let (x, y) = (points[i].X.times(z), points[i].Y.times(z));
-        out[i] = AffineNielsPoint {
-            y_plus_x: y.plus(x),
-            y_minus_x: y.minus(x),
-            xy2d: x.times(y).times(EDWARDS_D2),
-        };
+        out[i] = AffineNielsPoint { y_plus_x: y.plus(x), y_minus_x: y.minus(x), xy2d: x.times(y).times(EDWARDS_D2) };
     }
     out
 }

@@ -41,15 +41,11 @@ impl Scalar52 {
 
     /// 32 bytes as they stand, reduced or not.
     pub fn from_bytes(bytes: &[u8; 32]) -> Scalar52 {
-        Scalar52(core::array::from_fn(|i| {
-            (0..8).fold(0, |limb, k| limb | (bytes[8 * i + k] as u64) << (8 * k))
-        }))
+        Scalar52(core::array::from_fn(|i| (0..8).fold(0, |limb, k| limb | (bytes[8 * i + k] as u64) << (8 * k))))
     }
 
     pub fn from_bytes_wide(bytes: &[u8; 64]) -> Scalar52 {
-        let wide = core::array::from_fn(|i| {
-            (0..8).fold(0, |limb, k| limb | (bytes[8 * i + k] as u64) << (8 * k))
-        });
+        let wide = core::array::from_fn(|i| (0..8).fold(0, |limb, k| limb | (bytes[8 * i + k] as u64) << (8 * k)));
         Scalar52::montgomery_reduce(&wide)
     }
 

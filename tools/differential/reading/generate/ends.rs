@@ -1,7 +1,8 @@
 //! The ends: every refusal alone and with the next higher, every width, the limits, and digits at their extremes.
 
 use super::batches::prepare_pairs;
-use super::lists::{OVER, Pairs, engine, engine_mixed, tables};
+use super::fixed::{engine_mixed, tables};
+use super::lists::{OVER, Pairs, engine};
 use super::values::*;
 use super::{case, refusals};
 use crate::case::{Argument, Case};
@@ -90,10 +91,16 @@ fn recodings(cases: &mut Vec<Case>) {
     let top = number::minus([0, 0, 0, 1 << 63], number::ONE);
     for s in [number::ZERO, number::ONE, number::L, top, [0, 0, 0, 1 << 63], [u64::MAX; 4]] {
         for w in 2..=8 {
-            cases.push(Case { code: 8, arguments: vec![Argument::Digits(naf(&s, w).to_vec()), Argument::Number(w as u64)] });
+            cases.push(Case {
+                code: 8,
+                arguments: vec![Argument::Digits(naf(&s, w).to_vec()), Argument::Number(w as u64)],
+            });
         }
         for w in 4..=8 {
-            cases.push(Case { code: 9, arguments: vec![Argument::Digits(radix(&s, w).to_vec()), Argument::Number(w as u64)] });
+            cases.push(Case {
+                code: 9,
+                arguments: vec![Argument::Digits(radix(&s, w).to_vec()), Argument::Number(w as u64)],
+            });
         }
     }
 }
@@ -103,7 +110,8 @@ fn lookups(r: &mut Random, cases: &mut Vec<Case>) {
     let p = element(r);
     for (code, n) in [(13, 8), (14, 8), (15, 64)] {
         let window = if code == 13 { crate::calls::successive_window(&p, n) } else { crate::calls::odd_window(&p, n) };
-        let ds: Vec<i8> = if code == 15 { vec![-128, -127, -126, -1, 0, 1, 125, 126, 127] } else { (-18..=18).collect() };
+        let ds: Vec<i8> =
+            if code == 15 { vec![-128, -127, -126, -1, 0, 1, 125, 126, 127] } else { (-18..=18).collect() };
         for d in ds {
             cases.push(Case { code, arguments: vec![Argument::Limbs(window.clone()), Argument::Digit(d)] });
         }

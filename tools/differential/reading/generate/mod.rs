@@ -2,6 +2,7 @@
 
 mod batches;
 mod ends;
+mod fixed;
 mod lists;
 mod single;
 mod values;
