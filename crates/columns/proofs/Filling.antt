@@ -2,6 +2,7 @@
 use mathlib.Core.Path.{_≡_, refl, sym, ap, ap₂, _∙_}
 use mathlib.Core.List.{List, _++_}
 use Prim.Native.Nat.{ℕ, _+_, _-_, _*_, _/_, _<_, _≤_, min}
+use native.Mathlib.Nat.{le-antisymm}
 use native.Mathlib.Omega.{arith}
 use lib.ListN.{length, take, drop}
 use lib.IntN.{ℤ}
@@ -74,18 +75,18 @@ module _ (ss ps : List ℕ) (ds : List ℤ) (ws : List ℕ) where
     windows-long = ap length (f .windows) ∙ laid-length 32 windowOf i ws (λ j p. elements-length (odd elements (elementAt ps j)) 8) (omega (arith, f .place))
 
     -- the next slot's parts are there
-    pub room : i < fillCount ss ps ds ws → Room (length ss) (length d) (length w) i
+    pub room : {m : ℕ} → m ≡ fillCount ss ps ds ws → i < m → Room (length ss) (length d) (length w) i
     unfolding fillCount pairs windowedRows
-    room p = record { scalar = omega arith; row = omega (arith, digits-long); window = omega (arith, windows-long) }
+    room e p = record { scalar = omega arith; row = omega (arith, digits-long); window = omega (arith, windows-long) }
 
     -- one slot more, each part handed on and coming back
-    pub filling-more : (x : Element) (c : Counts) (ys : List ℤ) (zs : List ℕ) → i < fillCount ss ps ds ws → x ≡ elementAt ps i
+    pub filling-more : {m : ℕ} (x : Element) (c : Counts) (ys : List ℤ) (zs : List ℕ) → m ≡ fillCount ss ps ds ws → i < m → x ≡ elementAt ps i
         → slot c ys zs
         ≡ filledSlot (take (32 * i + 32 - 32 * i) (drop (32 * i) ss)) x (take (256 * i + 256 - 256 * i) (drop (256 * i) d)) (take (32 * i + 32 - 32 * i) (drop (32 * i) w))
         → Filling (take (256 * i) d ++ (ys ++ drop (256 * i + 256 - 256 * i) (drop (256 * i) d))) (take (32 * i) w ++ (zs ++ drop (32 * i + 32 - 32 * i) (drop (32 * i) w)))
         (a + c .additions) (b + c .doublings) (i + 1)
     unfolding filledSlot madeOdd
-    filling-more x c ys zs h e made =
+    filling-more x c ys zs count h e made =
         let u = slot-counts _ x _ _ c ys zs made in
         record {
           digits = laid-turn 256 rowOf i ds (λ j p. row-long (part 32 j ss)) d ys (f .digits) row;
@@ -99,17 +100,17 @@ module _ (ss ps : List ℕ) (ds : List ℤ) (ws : List ℕ) where
         row =
             ap (λ (m : Filled). m .digits) made
             ∙ ap₂ (λ (s : List ℕ) (r : List ℤ). put (nafRowOf s 5) r) (part-is 32 i ss) (part-is 256 i d)
-            ∙ put-same (rowOf i) (part 256 i d) (part-length 256 i d (room h .row) ∙ sym (row-long (part 32 i ss)))
+            ∙ put-same (rowOf i) (part 256 i d) (part-length 256 i d (room count h .row) ∙ sym (row-long (part 32 i ss)))
 
         window : zs ≡ windowOf i
         window =
             ap (λ (m : Filled). m .windows) made
             ∙ ap₂ (λ (y : Element) (l : List ℕ). put (elementsFlat (odd elements y) 8) l) e (part-is 32 i w)
-            ∙ put-same (windowOf i) (part 32 i w) (part-length 32 i w (room h .window) ∙ sym (elements-length (odd elements (elementAt ps i)) 8))
+            ∙ put-same (windowOf i) (part 32 i w) (part-length 32 i w (room count h .window) ∙ sym (elements-length (odd elements (elementAt ps i)) 8))
 
-    pub filling-end : i ≡ fillCount ss ps ds ws → slot (record { additions = a; doublings = b }) d w ≡ filled ss ps ds ws
+    pub filling-end : {m : ℕ} → m ≡ fillCount ss ps ds ws → m ≤ i → slot (record { additions = a; doublings = b }) d w ≡ filled ss ps ds ws
     unfolding filled laid
-    filling-end e = same (f .additions) (f .doublings) (f .digits) (f .windows) ∙ ap all e
+    filling-end e h = same (f .additions) (f .doublings) (f .digits) (f .windows) ∙ ap all (le-antisymm (f .place) (rw e at h))
       where
         same : {a a′ b b′ : ℕ} {d d′ : List ℤ} {w w′ : List ℕ} → a ≡ a′ → b ≡ b′ → d ≡ d′ → w ≡ w′
             → slot (record { additions = a; doublings = b }) d w ≡ slot (record { additions = a′; doublings = b′ }) d′ w′
@@ -123,3 +124,7 @@ pub count-is : (ss ps : List ℕ) (ds : List ℤ) (ws : List ℕ) (k r m : ℕ) 
     → r ≡ min (length ds / 256) (length ws / 32) → m ≡ min k r → m ≡ fillCount ss ps ds ws
 unfolding fillCount pairs windowedRows
 count-is ss ps ds ws k r m p q e = e ∙ ap₂ min p q
+
+-- what is left of the count falls
+pub sub-less : {m i : ℕ} → i < m → m - (i + 1) < m - i
+sub-less p = omega arith
