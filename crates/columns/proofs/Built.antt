@@ -35,7 +35,8 @@ pub filled-windows : (ps : List ℕ) (n m : ℕ) → ((k : ℕ) → getD ps k 0 
 unfolding pointAt
 filled-windows ps n m range members = flat-ext m (λ i p. odd-limbs (elementAt ps i) (read-ranged ps range i) (members i p) n)
 
-pub filled-slots : (ss ps : List ℕ) (ds : List ℤ) (ws : List ℕ) (m : ℕ) → fillCount ss ps ds ws ≡ m → ((k : ℕ) → getD ps k 0 < limb) → ((i : ℕ) → i < m → pointAt ps i < L)
+pub filled-slots : (ss ps : List ℕ) (ds : List ℤ) (ws : List ℕ) (m : ℕ) → fillCount ss ps ds ws ≡ m → ((k : ℕ) → getD ps k 0 < limb)
+    → ((i : ℕ) → i < m → pointAt ps i < L)
     → filled ss ps ds ws
     ≡ (record {
       counts = record { additions = 7 * m; doublings = m };
@@ -73,5 +74,6 @@ entry-under u ws m i k e long p = go (decLt k u)
         rw (ap valueOf (same first (at 1 q (lit< tt)) (at 2 q (lit< tt)) (at 3 q (lit< tt)))) (under ws (u * i + k) e b)
     go (no q) =
         let le : u ≤ k = omega arith in
-        let zero : elementAt (part (4 * u) i ws) k ≡ elementOf 0 = same (past _ le (omega arith)) (past _ le (omega arith)) (past _ le (omega arith)) (past _ le (omega arith)) in
+        let zero : elementAt (part (4 * u) i ws) k ≡ elementOf 0 =
+        same (past _ le (omega arith)) (past _ le (omega arith)) (past _ le (omega arith)) (past _ le (omega arith)) in
         rw (ap valueOf zero ∙ value-in 0 L-pos) L-pos

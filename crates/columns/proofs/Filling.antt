@@ -2,6 +2,7 @@
 use mathlib.Core.Path.{_≡_, refl, sym, ap, ap₂, _∙_}
 use mathlib.Core.List.{List, _++_}
 use Prim.Native.Nat.{ℕ, _+_, _-_, _*_, _/_, _<_, _≤_, min}
+use native.Mathlib.Nat.{le-antisymm}
 use native.Mathlib.Omega.{arith}
 use lib.ListN.{length, take, drop}
 use lib.IntN.{ℤ}
@@ -23,15 +24,15 @@ abbrev slot : Counts → List ℤ → List ℕ → Filled
 slot c d w = record { counts = c; digits = d; windows = w }
 
 -- a row put into its part, and a window made in its own
-pub slot-is : (s : List ℕ) (p : Element) (row row′ digits : List ℤ) (window window′ : List ℕ) (c : Counts) → digits ≡ nafRowOf s 5 → row′ ≡ put digits row
-    → _≡_ {A = Made} (record { counts = c; limbs = window′ }) (madeOdd 8 p window) → slot c row′ window′ ≡ filledSlot s p row window
+pub slot-is : (s : List ℕ) (p : Element) (row row′ digits : List ℤ) (window window′ : List ℕ) (c : Counts) → digits ≡ nafRowOf s 5
+    → row′ ≡ put digits row → _≡_ {A = Made} (record { counts = c; limbs = window′ }) (madeOdd 8 p window) → slot c row′ window′ ≡ filledSlot s p row window
 unfolding filledSlot
 slot-is s p row row′ digits window window′ c e f g =
     ap₂ (λ (d : List ℤ) (m : Made). slot (m .counts) d (m .limbs)) (f ∙ ap (λ (r : List ℤ). put r row) e) g
 
 -- what a slot takes
-pub slot-counts : (s : List ℕ) (p : Element) (row : List ℤ) (window : List ℕ) (c : Counts) (row′ : List ℤ) (window′ : List ℕ) → slot c row′ window′ ≡ filledSlot s p row window
-    → (c .additions ≡ 7) × (c .doublings ≡ 1)
+pub slot-counts : (s : List ℕ) (p : Element) (row : List ℤ) (window : List ℕ) (c : Counts) (row′ : List ℤ) (window′ : List ℕ)
+    → slot c row′ window′ ≡ filledSlot s p row window → (c .additions ≡ 7) × (c .doublings ≡ 1)
 unfolding filledSlot madeOdd
 slot-counts s p row window c row′ window′ e = (ap (λ (m : Filled). m .counts .additions) e, ap (λ (m : Filled). m .counts .doublings) e)
 
@@ -74,40 +75,42 @@ module _ (ss ps : List ℕ) (ds : List ℤ) (ws : List ℕ) where
     windows-long = ap length (f .windows) ∙ laid-length 32 windowOf i ws (λ j p. elements-length (odd elements (elementAt ps j)) 8) (omega (arith, f .place))
 
     -- the next slot's parts are there
-    pub room : i < fillCount ss ps ds ws → Room (length ss) (length d) (length w) i
+    pub room : {m : ℕ} → m ≡ fillCount ss ps ds ws → i < m → Room (length ss) (length d) (length w) i
     unfolding fillCount pairs windowedRows
-    room p = record { scalar = omega arith; row = omega (arith, digits-long); window = omega (arith, windows-long) }
+    room e p = record { scalar = omega arith; row = omega (arith, digits-long); window = omega (arith, windows-long) }
 
     -- one slot more, each part handed on and coming back
-    pub filling-more : (x : Element) (c : Counts) (ys : List ℤ) (zs : List ℕ) → i < fillCount ss ps ds ws → x ≡ elementAt ps i
+    pub filling-more : {m : ℕ} (x : Element) (c : Counts) (ys : List ℤ) (zs : List ℕ) → m ≡ fillCount ss ps ds ws → i < m → x ≡ elementAt ps i
         → slot c ys zs
         ≡ filledSlot (take (32 * i + 32 - 32 * i) (drop (32 * i) ss)) x (take (256 * i + 256 - 256 * i) (drop (256 * i) d)) (take (32 * i + 32 - 32 * i) (drop (32 * i) w))
         → Filling (take (256 * i) d ++ (ys ++ drop (256 * i + 256 - 256 * i) (drop (256 * i) d))) (take (32 * i) w ++ (zs ++ drop (32 * i + 32 - 32 * i) (drop (32 * i) w)))
         (a + c .additions) (b + c .doublings) (i + 1)
     unfolding filledSlot madeOdd
-    filling-more x c ys zs h e made =
-        let long : length (part 256 i d) ≡ 256 = part-length 256 i d (room h .row) in
-        let wide : length (part 32 i w) ≡ 32 = part-length 32 i w (room h .window) in
-        let y : ys ≡ rowOf i =
-        ap (λ (m : Filled). m .digits) made
-        ∙ ap₂ (λ (s : List ℕ) (r : List ℤ). put (nafRowOf s 5) r) (part-is 32 i ss) (part-is 256 i d)
-        ∙ put-same (rowOf i) (part 256 i d) (long ∙ sym (row-long (part 32 i ss))) in
-        let z : zs ≡ windowOf i =
-        ap (λ (m : Filled). m .windows) made
-        ∙ ap₂ (λ (y : Element) (l : List ℕ). put (elementsFlat (odd elements y) 8) l) e (part-is 32 i w)
-        ∙ put-same (windowOf i) (part 32 i w) (wide ∙ sym (elements-length (odd elements (elementAt ps i)) 8)) in
+    filling-more x c ys zs count h e made =
         let u = slot-counts _ x _ _ c ys zs made in
         record {
-          digits = laid-turn 256 rowOf i ds (λ j p. row-long (part 32 j ss)) d ys (f .digits) y;
-          windows = laid-turn 32 windowOf i ws (λ j p. elements-length (odd elements (elementAt ps j)) 8) w zs (f .windows) z;
+          digits = laid-turn 256 rowOf i ds (λ j p. row-long (part 32 j ss)) d ys (f .digits) row;
+          windows = laid-turn 32 windowOf i ws (λ j p. elements-length (odd elements (elementAt ps j)) 8) w zs (f .windows) window;
           additions = omega (arith, f .additions, u .0);
           doublings = omega (arith, f .doublings, u .1);
           place = omega arith;
         }
+      where
+        row : ys ≡ rowOf i
+        row =
+            ap (λ (m : Filled). m .digits) made
+            ∙ ap₂ (λ (s : List ℕ) (r : List ℤ). put (nafRowOf s 5) r) (part-is 32 i ss) (part-is 256 i d)
+            ∙ put-same (rowOf i) (part 256 i d) (part-length 256 i d (room count h .row) ∙ sym (row-long (part 32 i ss)))
 
-    pub filling-end : i ≡ fillCount ss ps ds ws → slot (record { additions = a; doublings = b }) d w ≡ filled ss ps ds ws
+        window : zs ≡ windowOf i
+        window =
+            ap (λ (m : Filled). m .windows) made
+            ∙ ap₂ (λ (y : Element) (l : List ℕ). put (elementsFlat (odd elements y) 8) l) e (part-is 32 i w)
+            ∙ put-same (windowOf i) (part 32 i w) (part-length 32 i w (room count h .window) ∙ sym (elements-length (odd elements (elementAt ps i)) 8))
+
+    pub filling-end : {m : ℕ} → m ≡ fillCount ss ps ds ws → m ≤ i → slot (record { additions = a; doublings = b }) d w ≡ filled ss ps ds ws
     unfolding filled laid
-    filling-end e = same (f .additions) (f .doublings) (f .digits) (f .windows) ∙ ap all e
+    filling-end e h = same (f .additions) (f .doublings) (f .digits) (f .windows) ∙ ap all (le-antisymm (f .place) (rw e at h))
       where
         same : {a a′ b b′ : ℕ} {d d′ : List ℤ} {w w′ : List ℕ} → a ≡ a′ → b ≡ b′ → d ≡ d′ → w ≡ w′
             → slot (record { additions = a; doublings = b }) d w ≡ slot (record { additions = a′; doublings = b′ }) d′ w′
@@ -117,7 +120,11 @@ module _ (ss ps : List ℕ) (ds : List ℤ) (ws : List ℕ) where
         all m = slot (record { additions = 7 * m; doublings = m }) (flat rowOf m ++ drop (256 * m) ds) (flat windowOf m ++ drop (32 * m) ws)
 
 -- the smaller of the pairs and of the rows with windows
-pub count-is : (ss ps : List ℕ) (ds : List ℤ) (ws : List ℕ) (k r m : ℕ) → k ≡ min (length ss / 32) (length ps / 4) → r ≡ min (length ds / 256) (length ws / 32) → m ≡ min k r
-    → m ≡ fillCount ss ps ds ws
+pub count-is : (ss ps : List ℕ) (ds : List ℤ) (ws : List ℕ) (k r m : ℕ) → k ≡ min (length ss / 32) (length ps / 4)
+    → r ≡ min (length ds / 256) (length ws / 32) → m ≡ min k r → m ≡ fillCount ss ps ds ws
 unfolding fillCount pairs windowedRows
 count-is ss ps ds ws k r m p q e = e ∙ ap₂ min p q
+
+-- what is left of the count falls
+pub sub-less : {m i : ℕ} → i < m → m - (i + 1) < m - i
+sub-less p = omega arith

@@ -2,9 +2,11 @@
 use mathlib.Core.Path.{_≡_, refl, sym, ap, ap₂, _∙_}
 use mathlib.Core.List.{List}
 use Prim.Native.Nat.{ℕ, _+_, _-_, _*_, _%_, _^_, _<_, _≤_}
-use native.Mathlib.Nat.{mod-add-mod}
+use native.Mathlib.Nat.{add-mod, min-eq-left, lt-of-lt-of-le}
+use native.Mathlib.Omega.{arith}
 use lib.IntN.{ℤ, pos}
-use lib.Dec.{lit<, lit≤}
+use lib.Dec.{lit≤}
+use lib.Pow.{pow-pos}
 use Rattle.rules.specs.Values.{elementOf, part, flat, pointAt}
 use Rattle.rules.specs.Group.{L, residues, total}
 use Rattle.rules.specs.Loops.{oddEntry, weight}
@@ -15,14 +17,14 @@ use Rattle.rules.specs.Batch.{slotDigit}
 use Rattle.rules.specs.Engines.{entrySum, entryAt}
 use Rattle.rules.specs.Helpers.{windowedRows, walked}
 use Rattle.laws.specs.Parts.{flat-length, flat-part}
-use Rattle.laws.specs.Weight.{weight-ext}
+use Rattle.laws.specs.Weight.{weight-ext, weight-top}
 use Rattle.laws.specs.Windows.{odd-in}
 use Rattle.laws.specs.Walk.{Named, Windowed}
 use Rattle.laws.specs.NafRows.{naf-length, naf-digit-odd, naf-entry}
 use Rattle.laws.specs.RowsRule.{naf-obeys}
 use Rattle.residue.proofs.Laws.{group}
 use Rattle.window.proofs.Flat.{limbs-length, limbs-at}
-use Rattle.columns.proofs.Entries.{entries-sum, entries-ext}
+use Rattle.columns.proofs.Entries.{entries-sum, entries-ext, entries-top}
 use Rattle.columns.proofs.Walked.{rows-are, took, walked-entries}
 
 -- rows of width w, one after the other
@@ -63,7 +65,10 @@ module _ (w : ℕ) (lo : 2 ≤ w) (s p : ℕ → ℕ) (m : ℕ) (small : (i : �
   slots-windowed : Windowed residues (λ a. a < L) (slotDigit (nafRows w s m)) (entryAt (4 * 2 ^ (w - 2)) oddWindows) p m 256
   slots-windowed = record {
     point-in = under;
-    entry-is = λ i j a b. slot-entry (2 ^ (w - 2)) (λ i. odd residues (p i)) m i (oddEntry (slotDigit (nafRows w s m) i j)) a (rw (slot-digit w s m i j a) (naf-entry w (s i) lo j)) (odd-in group _ (under i a));
+    entry-is =
+        λ i j a b. slot-entry (2 ^ (w - 2)) (λ i. odd residues (p i)) m i (oddEntry (slotDigit (nafRows w s m) i j)) a
+        (rw (slot-digit w s m i j a) (naf-entry w (s i) lo j))
+        (odd-in group _ (under i a));
     odd-digit = λ i j a b. rw (slot-digit w s m i j a) (naf-digit-odd w (s i) lo j);
   }
 
@@ -75,26 +80,57 @@ module _ (w : ℕ) (lo : 2 ≤ w) (s p : ℕ → ℕ) (m : ℕ) (small : (i : �
   pub filled-sum : entrySum (slotDigit (nafRows w s m)) (entryAt (4 * 2 ^ (w - 2)) oddWindows) m 256 % L ≡ total (λ i. s i * p i) m % L
   filled-sum = entries-sum (slotDigit (nafRows w s m)) (entryAt (4 * 2 ^ (w - 2)) oddWindows) m 256 p s slots-windowed (λ i a. slot-reads w s m lo i a (small i a))
 
--- the walk over slots of width 5, beside static rows whose entries are members
-module _ (s p : ℕ → ℕ) (m : ℕ) (small : (i : ℕ) → i < m → s i < rowBound) (under : (i : ℕ) → i < m → p i < L) (ds′ : List ℤ) (ts : List ℕ) (m′ : ℕ) (rows′ : windowedRows 256 ds′ ts ≡ m′) where
+-- the parts of a sum by their residues
+both : (x x′ y y′ : ℕ) → x % L ≡ y % L → x′ % L ≡ y′ % L → (x + x′) % L ≡ (y + y′) % L
+both x x′ y y′ e e′ = add-mod x x′ L ∙ ap₂ (λ (a b : ℕ). (a + b) % L) e e′ ∙ sym (add-mod y y′ L)
+
+-- so many slots
+slots-are : (w : ℕ) → 2 ≤ w → (s p : ℕ → ℕ) (m : ℕ)
+    → windowedRows (4 * 2 ^ (w - 2)) (nafRows w s m) (flat (λ i. limbsFlat (odd residues (p i)) (2 ^ (w - 2))) m) ≡ m
+slots-are w lo s p m =
+    rows-are (4 * 2 ^ (w - 2)) m _ _ (omega (arith, pow-pos (w - 2))) (flat-length 256 (λ i. nafRow w (s i)) m (λ i _. naf-length w (s i)))
+    (flat-length (4 * 2 ^ (w - 2)) _ m (λ i _. limbs-length (odd residues (p i)) (2 ^ (w - 2))))
+
+-- the walk over slots of width 5
+module _ (s p : ℕ → ℕ) (m : ℕ) (small : (i : ℕ) → i < m → s i < rowBound) (under : (i : ℕ) → i < m → p i < L) where
   abbrev slots : List ℤ
   slots = flat (λ i. nafRow 5 (s i)) m
 
   abbrev windows : List ℕ
   windows = flat (λ i. limbsFlat (odd residues (p i)) 8) m
 
-  pub walked-slots : Named (λ a. a < L) (slotDigit ds′) (entryAt 256 ts) m′ 256
+  -- beside static rows on tables as they stand
+  pub walked-slots : (ds′ : List ℤ) (ts : List ℕ) (m′ : ℕ) → windowedRows 256 ds′ ts ≡ m′ → Named (λ a. a < L) (slotDigit ds′) (entryAt 256 ts) m′ 256
       → walked slots windows ds′ ts 256
       ≡ took (elementOf ((total (λ i. s i * p i) m + entrySum (slotDigit ds′) (entryAt 256 ts) m′ 256) % L))
       (weight (λ i j. digit (nafRow 5 (s i)) j) m 256 + weight (slotDigit ds′) m′ 256) 256
-  walked-slots named′ =
-      walked-entries slots windows ds′ ts 256 m m′ 256 rows rows′ refl (slots-named 5 (lit≤ tt) s p m small under) named′
+  walked-slots ds′ ts m′ rows′ named′ =
+      walked-entries slots windows ds′ ts 256 m m′ 256 (slots-are 5 (lit≤ tt) s p m) rows′ refl (slots-named 5 (lit≤ tt) s p m small under) named′
       ∙ ap₂ (λ (v a : ℕ). took (elementOf v) (a + weight (slotDigit ds′) m′ 256) 256)
-      (sym (mod-add-mod (entrySum (slotDigit slots) (entryAt 32 windows) m 256) L rest) ∙ ap (λ (v : ℕ). (v + rest) % L) (filled-sum 5 (lit≤ tt) s p m small under) ∙ mod-add-mod (total (λ i. s i * p i) m) L rest)
+      (both _ _ _ _ (filled-sum 5 (lit≤ tt) s p m small under) refl)
       (slot-weight 5 s m 256)
-    where
-      rest : ℕ
-      rest = entrySum (slotDigit ds′) (entryAt 256 ts) m′ 256
 
-      rows : windowedRows 32 slots windows ≡ m
-      rows = rows-are 32 m slots windows (lit< tt) (flat-length 256 (λ i. nafRow 5 (s i)) m (λ i p. naf-length 5 (s i))) (flat-length 32 (λ i. limbsFlat (odd residues (p i)) 8) m (λ i a. limbs-length (odd residues (p i)) 8))
+  -- beside slots of width 8, from any place k that no row's digits reach
+  module _ (s′ p′ : ℕ → ℕ) (m′ : ℕ) (small′ : (i : ℕ) → i < m′ → s′ i < rowBound) (under′ : (i : ℕ) → i < m′ → p′ i < L) (k : ℕ) (le : k ≤ 256)
+      (top : (i j : ℕ) → i < m → k ≤ j → j < 256 → digit (nafRow 5 (s i)) j ≡ pos 0)
+      (top′ : (i j : ℕ) → i < m′ → k ≤ j → j < 256 → digit (nafRow 8 (s′ i)) j ≡ pos 0) where
+    abbrev slots′ : List ℤ
+    slots′ = flat (λ i. nafRow 8 (s′ i)) m′
+
+    abbrev tables : List ℕ
+    tables = flat (λ i. limbsFlat (odd residues (p′ i)) 64) m′
+
+    pub walked-filled : walked slots windows slots′ tables k
+        ≡ took (elementOf ((total (λ i. s i * p i) m + total (λ i. s′ i * p′ i) m′) % L))
+        (weight (λ i j. digit (nafRow 5 (s i)) j) m 256 + weight (λ i j. digit (nafRow 8 (s′ i)) j) m′ 256) k
+    walked-filled =
+        let zero : (i j : ℕ) → i < m → k ≤ j → j < 256 → slotDigit slots i j ≡ pos 0 = λ i j a b c. slot-digit 5 s m i j a ∙ top i j a b c in
+        let zero′ : (i j : ℕ) → i < m′ → k ≤ j → j < 256 → slotDigit slots′ i j ≡ pos 0 = λ i j a b c. slot-digit 8 s′ m′ i j a ∙ top′ i j a b c in
+        let sum = entries-top (slotDigit slots) (entryAt 32 windows) m 256 k le zero in
+        let sum′ = entries-top (slotDigit slots′) (entryAt 256 tables) m′ 256 k le zero′ in
+        walked-entries slots windows slots′ tables k m m′ k (slots-are 5 (lit≤ tt) s p m) (slots-are 8 (lit≤ tt) s′ p′ m′) (min-eq-left le)
+        (λ i j a b. slots-named 5 (lit≤ tt) s p m small under i j a (lt-of-lt-of-le b le))
+        (λ i j a b. slots-named 8 (lit≤ tt) s′ p′ m′ small′ under′ i j a (lt-of-lt-of-le b le))
+        ∙ ap₂ (λ (v a : ℕ). took (elementOf v) a k)
+        (both _ _ _ _ (ap (λ (v : ℕ). v % L) (sym sum) ∙ filled-sum 5 (lit≤ tt) s p m small under) (ap (λ (v : ℕ). v % L) (sym sum′) ∙ filled-sum 8 (lit≤ tt) s′ p′ m′ small′ under′))
+        (ap₂ _+_ (sym (weight-top (slotDigit slots) m k 256 le zero) ∙ slot-weight 5 s m 256) (sym (weight-top (slotDigit slots′) m′ k 256 le zero′) ∙ slot-weight 8 s′ m′ 256))

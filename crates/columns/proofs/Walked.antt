@@ -28,7 +28,8 @@ rows-are n m ds ws h e g =
 abbrev pub took : Element → ℕ → ℕ → Walk
 took e a n = record { element = e; additions = a; doublings = n }
 
-module _ (ds : List ℤ) (ws : List ℕ) (ds′ : List ℤ) (ts : List ℕ) (p m m′ n : ℕ) (rows : windowedRows 32 ds ws ≡ m) (rows′ : windowedRows 256 ds′ ts ≡ m′) (places : min p 256 ≡ n) where
+module _ (ds : List ℤ) (ws : List ℕ) (ds′ : List ℤ) (ts : List ℕ) (p m m′ n : ℕ) (rows : windowedRows 32 ds ws ≡ m)
+    (rows′ : windowedRows 256 ds′ ts ≡ m′) (places : min p 256 ≡ n) where
   pub walked-entries : Named (λ a. a < L) (slotDigit ds) (entryAt 32 ws) m n → Named (λ a. a < L) (slotDigit ds′) (entryAt 256 ts) m′ n
       → walked ds ws ds′ ts p
       ≡ took (elementOf ((entrySum (slotDigit ds) (entryAt 32 ws) m n + entrySum (slotDigit ds′) (entryAt 256 ts) m′ n) % L))

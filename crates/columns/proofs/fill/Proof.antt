@@ -1,10 +1,11 @@
 -- After i turns the first i slots are filled.
 use mathlib.Core.Path.{_≡_}
-use Prim.Native.Nat.{ℕ, _+_, _-_, _<_}
+use Prim.Native.Nat.{_-_}
+use native.Mathlib.Nat.{le-add-right}
 use native.Mathlib.Omega.{arith}
 use borrow.Author.Needs.{needs}
 use Rattle.rules.specs.Helpers.{fillCount}
-use Rattle.columns.proofs.Filling.{slot-counts, Filling, filling-none, digits-long, windows-long, room, filling-more, filling-end, count-is}
+use Rattle.columns.proofs.Filling.{slot-counts, Filling, filling-none, digits-long, windows-long, room, filling-more, filling-end, count-is, sub-less}
 use Rattle.columns.proofs.fill.Statement.{statement}
 use Rattle.columns.proofs.fill.Tie as tie
 
@@ -30,58 +31,58 @@ loop-holds c =
 
 mul-s : tie.Need-mul-s Inv-loop μ-loop
 mul-s c =
-    let r = room _ _ _ _ (c .before .loop .inv .1) (omega arith) in
+    let r = room _ _ _ _ (c .before .loop .inv .1) (c .before .loop .inv .0) (c .loop-test .taken) in
     omega (arith, r .scalar)
 
 add-t : tie.Need-add-t Inv-loop μ-loop
 add-t c =
-    let r = room _ _ _ _ (c .before .loop .inv .1) (omega arith) in
+    let r = room _ _ _ _ (c .before .loop .inv .1) (c .before .loop .inv .0) (c .loop-test .taken) in
     omega (arith, r .scalar)
 
 mul-a : tie.Need-mul-a Inv-loop μ-loop
 mul-a c =
-    let r = room _ _ _ _ (c .before .loop .inv .1) (omega arith) in
+    let r = room _ _ _ _ (c .before .loop .inv .1) (c .before .loop .inv .0) (c .loop-test .taken) in
     omega (arith, r .row)
 
 add-e : tie.Need-add-e Inv-loop μ-loop
 add-e c =
-    let r = room _ _ _ _ (c .before .loop .inv .1) (omega arith) in
+    let r = room _ _ _ _ (c .before .loop .inv .1) (c .before .loop .inv .0) (c .loop-test .taken) in
     omega (arith, r .row)
 
 element-at-requires : tie.Need-element-at-requires Inv-loop μ-loop
 element-at-requires c κs = search needs
 
 sub-fill-slot : tie.Need-sub-fill-slot Inv-loop μ-loop
-sub-fill-slot c = omega arith
+sub-fill-slot c = le-add-right _ _
 
 part-fill-slot-start : tie.Need-part-fill-slot-start Inv-loop μ-loop
-part-fill-slot-start c = omega arith
+part-fill-slot-start c = le-add-right _ _
 
 part-fill-slot-end : tie.Need-part-fill-slot-end Inv-loop μ-loop
-part-fill-slot-end c = room _ _ _ _ (c .before .before .loop .inv .1) (omega arith) .scalar
+part-fill-slot-end c = room _ _ _ _ (c .before .before .loop .inv .1) (c .before .before .loop .inv .0) (c .before .loop-test .taken) .scalar
 
 sub-fill-slot-2 : tie.Need-sub-fill-slot-2 Inv-loop μ-loop
-sub-fill-slot-2 c = omega arith
+sub-fill-slot-2 c = le-add-right _ _
 
 part-fill-slot-start-2 : tie.Need-part-fill-slot-start-2 Inv-loop μ-loop
-part-fill-slot-start-2 c = omega arith
+part-fill-slot-start-2 c = le-add-right _ _
 
 part-fill-slot-end-2 : tie.Need-part-fill-slot-end-2 Inv-loop μ-loop
-part-fill-slot-end-2 c = room _ _ _ _ (c .before .before .before .loop .inv .1) (omega arith) .row
+part-fill-slot-end-2 c = room _ _ _ _ (c .before .before .before .loop .inv .1) (c .before .before .before .loop .inv .0) (c .before .before .loop-test .taken) .row
 
 mul-fill-slot : tie.Need-mul-fill-slot Inv-loop μ-loop
 mul-fill-slot c =
-    let r = room _ _ _ _ (c .before .before .before .before .loop .inv .1) (omega arith) in
+    let r = room _ _ _ _ (c .before .before .before .before .loop .inv .1) (c .before .before .before .before .loop .inv .0) (c .before .before .before .loop-test .taken) in
     omega (arith, r .window)
 
 sub-fill-slot-3 : tie.Need-sub-fill-slot-3 Inv-loop μ-loop
-sub-fill-slot-3 c = omega arith
+sub-fill-slot-3 c = le-add-right _ _
 
 part-fill-slot-start-3 : tie.Need-part-fill-slot-start-3 Inv-loop μ-loop
-part-fill-slot-start-3 c = omega arith
+part-fill-slot-start-3 c = le-add-right _ _
 
 part-fill-slot-end-3 : tie.Need-part-fill-slot-end-3 Inv-loop μ-loop
-part-fill-slot-end-3 c = room _ _ _ _ (c .before .before .before .before .loop .inv .1) (omega arith) .window
+part-fill-slot-end-3 c = room _ _ _ _ (c .before .before .before .before .loop .inv .1) (c .before .before .before .before .loop .inv .0) (c .before .before .before .loop-test .taken) .window
 
 fill-slot-requires : tie.Need-fill-slot-requires Inv-loop μ-loop
 fill-slot-requires c κs = search needs
@@ -89,8 +90,9 @@ fill-slot-requires c κs = search needs
 add-additions : tie.Need-add-additions Inv-loop μ-loop
 add-additions c =
     let f = c .before .before .before .before in
-    let l = f .before .before .before .before .before .before in
-    let r = room _ _ _ _ (l .loop .inv .1) (omega arith) in
+    let t = f .before .before .before .before .before in
+    let l = t .before in
+    let r = room _ _ _ _ (l .loop .inv .1) (l .loop .inv .0) (t .loop-test .taken) in
     let n = slot-counts _ _ _ _ _ _ _ (f .fill-slot .ensures) in
     let g = l .before .before .before .before .before .before .before .good in
     omega (arith, r .scalar, n .0, l .loop .inv .1 .additions, g .0 .0)
@@ -98,8 +100,9 @@ add-additions c =
 add-doublings : tie.Need-add-doublings Inv-loop μ-loop
 add-doublings c =
     let f = c .before .before .before .before .before in
-    let l = f .before .before .before .before .before .before in
-    let r = room _ _ _ _ (l .loop .inv .1) (omega arith) in
+    let t = f .before .before .before .before .before in
+    let l = t .before in
+    let r = room _ _ _ _ (l .loop .inv .1) (l .loop .inv .0) (t .loop-test .taken) in
     let n = slot-counts _ _ _ _ _ _ _ (f .fill-slot .ensures) in
     omega (arith, r .scalar, n .1, l .loop .inv .1 .doublings)
 
@@ -108,17 +111,15 @@ add-i c = omega arith
 
 loop-less : tie.Need-loop-less Inv-loop μ-loop
 loop-less c =
-    let l = c .before .before .before .before .before .before .before .before .before .before .before in
-    less (l .before .smaller2 .result) (l .loop .i) (omega arith)
-  where
-    less : (m i : ℕ) → i < m → m - (i + 1) < m - i
-    less m i p = omega arith
+    let t = c .before .before .before .before .before .before .before .before .before .before in
+    sub-less (t .loop-test .taken)
 
 loop-again : tie.Need-loop-again Inv-loop μ-loop
 loop-again c =
     let f = c .before .before .before .before .before in
-    let l = f .before .before .before .before .before .before in
-    (l .loop .inv .0, filling-more _ _ _ _ (l .loop .inv .1) _ _ _ _ (omega arith) (f .before .before .before .before .element-at .ensures) (f .fill-slot .ensures))
+    let t = f .before .before .before .before .before in
+    let l = t .before in
+    (l .loop .inv .0, filling-more _ _ _ _ (l .loop .inv .1) _ _ _ _ (l .loop .inv .0) (t .loop-test .taken) (f .before .before .before .before .element-at .ensures) (f .fill-slot .ensures))
 
 same-length : tie.Need-same-length Inv-loop μ-loop
 same-length c = digits-long _ _ _ _ (c .before .loop .inv .1)
@@ -127,7 +128,7 @@ same-length-2 : tie.Need-same-length-2 Inv-loop μ-loop
 same-length-2 c = windows-long _ _ _ _ (c .before .loop .inv .1)
 
 returns : tie.Need-returns Inv-loop μ-loop
-returns c = filling-end _ _ _ _ (c .before .loop .inv .1) (omega (arith, c .before .loop .inv .0, c .before .loop .inv .1 .place))
+returns c = filling-end _ _ _ _ (c .before .loop .inv .1) (c .before .loop .inv .0) (c .loop-test .left)
 
 pub fill-spec : {M : Type 1} → statement M
 fill-spec =
