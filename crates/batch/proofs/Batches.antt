@@ -2,13 +2,13 @@
 use mathlib.Core.Path.{_≡_, refl, sym, ap, ap₂, _∙_}
 use mathlib.Core.Bool.{Bool, true, false, _||_}
 use mathlib.Core.List.{List, [], _∷_, _++_}
-use Prim.Native.Nat.{ℕ, _+_, _*_, _/_, _%_, _-_, _<_, _≤_, min}
+use Prim.Native.Nat.{ℕ, _+_, _*_, _/_, _%_, _-_, _<_, _≤_}
 use native.Mathlib.Nat.{add-zero}
 use native.Mathlib.Omega.{arith}
 use lib.ListN.{length, getD, take, drop, drop-of-length-le}
-use lib.IntN.{ℤ, pos}
-use lib.Dec.{eqb, leb, lit<}
-use borrow.Author.Tests.{eqb-true, ltb-false, leb-false, not-false, le-leb}
+use lib.IntN.{ℤ}
+use lib.Dec.{leb, lit<}
+use borrow.Author.Tests.{eqb-true, ltb-false, leb-false, not-false}
 use mathlib.Core.List.{append-nil}
 use Rattle.rules.specs.declared.Element.{Element}
 use Rattle.rules.specs.declared.OptionalPoint.{OptionalPoint}
@@ -17,20 +17,20 @@ use Rattle.rules.specs.declared.Counts.{Counts}
 use Rattle.rules.specs.declared.Counted.{Counted}
 use Rattle.rules.specs.declared.Walk.{Walk}
 use Rattle.rules.specs.declared.Sum.{Sum}
-use Rattle.rules.specs.Values.{limb, valueOf, elementOf, elementAt, part, flat, pointAt, scalarAt}
+use Rattle.rules.specs.Values.{limb, valueOf, elementOf, part, flat, pointAt, scalarAt}
 use Rattle.rules.specs.Group.{L, elements, residues}
 use Rattle.rules.specs.Loops.{weight}
-use Rattle.rules.specs.Numbers.{first, given, counted, summed}
-use Rattle.rules.specs.Lists.{notIn, otherThan, beyondMost, scalarCount, pointCount, pairs, listsNotWhole, anyBig, badLists, anyFlag, anyPoint, absentBelow, pointOver, isAbsent, anyWild, put, stored}
+use Rattle.rules.specs.Numbers.{first, given, counted}
+use Rattle.rules.specs.Lists.{notIn, otherThan, beyondMost, scalarCount, pointCount, pairs, badLists, anyFlag, anyPoint, pointOver, isAbsent, anyWild, stored}
 use Rattle.rules.specs.Rows.{nafRowOf, widthOff, notLong}
 use Rattle.rules.specs.Windows.{odd, anyOver}
 use Rattle.rules.specs.Engines.{entrySum, entryAt}
 use Rattle.rules.specs.Batch.{Memory, AfterEdit, slotRow, slotWindow, slotDigit, memoryNotWhole, prepare, prepareRefusal, fresh, set, setIn, setRefusal, valueIn, totalOf, totalRefusal}
-use Rattle.rules.specs.Helpers.{Filled, filled, filledSlot, fillCount, windowedRows, walked, madeOdd, elementsFlat, countedDone, sumDone}
+use Rattle.rules.specs.Helpers.{Filled, filled, filledSlot, fillCount, walked, madeOdd, elementsFlat, countedDone, sumDone}
 use Rattle.laws.specs.Conditions.{or-split, first-none, first-next, given-done, given-refused}
 use Rattle.laws.specs.Walk.{Named}
 use Rattle.laws.specs.Weight.{weight-none}
-use Rattle.lent.proofs.Passed.{small, there-under}
+use Rattle.lent.proofs.Passed.{there-under}
 use Rattle.answer.proofs.Answers.{refused-counted, done-counted, done-sum}
 use Rattle.limbs.proofs.Elements.{Ranged}
 use Rattle.window.proofs.Flat.{odd-limbs, limbs-length}

@@ -29,7 +29,7 @@ pub record Answers (r : Sum) (v : ℕ) : Type 0 where
   pub number-is : r .number ≡ 0
   pub value-is : r .value ≡ places limb 4 v
 
-answers : (n v a d : ℕ) → n ≡ 0 → Answers (summed n v a d) v
+pub answers : (n v a d : ℕ) → n ≡ 0 → Answers (summed n v a d) v
 unfolding summed
 answers n v a d z = record { number-is = z; value-is = ap (λ (k : ℕ). places limb 4 (given k 0 v)) z ∙ ap (places limb 4) (given-done 0 v) }
 

@@ -270,3 +270,7 @@ edited-is-fresh l m es z m′ ed ew =
       same-memory = ap (λ (k : Memory). memoryAfter k es) (a .3) ∙ b .0 ∙ sym (c .1);
       ready-again = b .1;
     }
+
+-- and it is the memory of that list
+pub prepared-fresh : (l : Pairs) (m : Memory) (es : List Edit) → prepared l m .result .number ≡ 0 → memoryAfter (prepared l m .memory) es ≡ freshOf (listAfter l es)
+prepared-fresh l m es z = let a = prepared-is l m z in ap (λ (k : Memory). memoryAfter k es) (a .3) ∙ many-edits l es (a .2) .0

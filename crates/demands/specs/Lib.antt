@@ -3,6 +3,7 @@ pub mod Edits
 pub mod Ready
 pub mod Fresh
 pub mod Agree
+pub mod Total
 pub mod Refusals
 pub mod Rows
 pub mod One

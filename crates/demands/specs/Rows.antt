@@ -1,6 +1,6 @@
 -- Demand 2, rows: each recoding gives the one digit row its rule allows; recode then read gives the scalar, read then recode gives the row;
 -- a reader refuses by 10 exactly the rows that no scalar below 2^255 has.
-use mathlib.Core.Path.{_≡_, sym, ap, _∙_}
+use mathlib.Core.Path.{_≡_, sym, _∙_}
 use mathlib.Core.List.{List}
 use mathlib.Core.Logic.{_↔_}
 use Prim.Native.Nat.{ℕ, _≤_, _<_}
