@@ -1,0 +1,8 @@
+pub mod TopByte
+pub mod Puts
+pub mod Joined
+pub mod Passed
+mod Points
+mod Signed
+mod Copies
+mod Clearing

@@ -1,0 +1,51 @@
+-- What a call knows of lent lists where a test has passed.
+use mathlib.Core.Path.{_≡_, refl}
+use mathlib.Core.Bool.{Bool, true, false, cond}
+use mathlib.Core.List.{List}
+use Prim.Native.Nat.{ℕ, _/_, _%_, _<_, _≤_}
+use native.Mathlib.Omega.{arith}
+use lib.ListN.{length, getD}
+use lib.Dec.{eqb}
+use borrow.Author.Tests.{eqb-true, ltb-false, leb-false, not-false}
+use Rattle.rules.specs.declared.OptionalPoint.the-variants.{Present, Absent}
+use Rattle.rules.specs.Values.{valueOf, elementAt, pointAt, optionalAt, scalarAt}
+use Rattle.rules.specs.Group.{L}
+use Rattle.rules.specs.Numbers.{scalarBound}
+use Rattle.rules.specs.Windows.{over, anyOver}
+use Rattle.rules.specs.Lists.{notIn, beyondMost, scalarCount, pointCount, bigAt, anyBig, flagAt, anyFlag, pointOver, anyPoint, isAbsent, absentBelow}
+use Rattle.laws.specs.Conditions.{any-below}
+
+pub whole : (unit n : ℕ) → notIn unit n ≡ false → n % unit ≡ 0
+unfolding notIn
+whole unit n e = eqb-true (n % unit) 0 (not-false (eqb (n % unit) 0) e)
+
+pub few : (limit unit n : ℕ) → beyondMost limit unit n ≡ false → n / unit ≤ limit
+unfolding beyondMost
+few limit unit n e = ltb-false limit (n / unit) e
+
+pub small : (ss : List ℕ) (i : ℕ) → anyBig ss ≡ false → i < scalarCount ss → scalarAt ss i < scalarBound
+unfolding anyBig bigAt
+small ss i e h = leb-false scalarBound (scalarAt ss i) (any-below (bigAt ss) (scalarCount ss) i e h)
+
+pub flags-are : (fs : List ℕ) (i : ℕ) → anyFlag fs ≡ false → i < length fs → getD fs i 0 ≤ 1
+unfolding anyFlag flagAt
+flags-are fs i e h = ltb-false 1 (getD fs i 0) (any-below (flagAt fs) (length fs) i e h)
+
+pub under : (ps : List ℕ) (i : ℕ) → anyOver ps ≡ false → i < pointCount ps → pointAt ps i < L
+unfolding anyOver over
+under ps i e h = leb-false L (pointAt ps i) (any-below (over ps) (pointCount ps) i e h)
+
+-- a point that is not absent is the element at its place
+pub there : (ps fs : List ℕ) (n i : ℕ) → absentBelow ps fs n ≡ false → i < n → optionalAt ps fs i ≡ Present (elementAt ps i)
+unfolding absentBelow optionalAt
+there ps fs n i e h = go (eqb (getD fs i 0) 0) (any-below (λ j. isAbsent (optionalAt ps fs j)) n i e h)
+  where
+    go : (b : Bool) → isAbsent (cond b Absent (Present (elementAt ps i))) ≡ false → cond b Absent (Present (elementAt ps i)) ≡ Present (elementAt ps i)
+    go true q = let t : true ≡ false = unfold isAbsent in q in let w : _≡_ {A = ℕ} 0 1 = cc in absurd (omega arith)
+    go false q = refl
+
+-- and below L
+pub there-under : (ps fs : List ℕ) (n i : ℕ) → absentBelow ps fs n ≡ false → anyPoint ps fs ≡ false → i < n → i < pointCount ps → pointAt ps i < L
+unfolding anyPoint pointOver pointAt
+there-under ps fs n i e a h g =
+    leb-false L (valueOf (elementAt ps i)) (rw (there ps fs n i e h) at (any-below (λ j. pointOver (optionalAt ps fs j)) (pointCount ps) i a g))

@@ -1,0 +1,61 @@
+-- A search: none of the points passed is present and at or above L.
+use mathlib.Core.Bool.{false}
+use mathlib.Core.Path.{_≡_, sym, ap, _∙_}
+use Prim.Native.Nat.{_≤_, _-_}
+use native.Mathlib.Omega.{arith}
+use borrow.Author.Needs.{needs}
+use Rattle.rules.specs.Lists.{pointOver, anyPoint}
+use Rattle.rules.specs.Numbers.{any}
+use Rattle.rules.specs.Values.{optionalAt}
+use Rattle.laws.specs.Conditions.{any-none, any-more, any-at, any-end}
+use Rattle.lent.proofs.any_point.Statement.{statement}
+use Rattle.lent.proofs.any_point.Tie as tie
+
+abbrev Inv-loop : tie.InvT-loop
+Inv-loop points flags n i₀ i = (i ≤ n) × (any (λ j. pointOver (optionalAt points flags j)) i ≡ false)
+
+abbrev μ-loop : tie.MeasureT-loop
+μ-loop points flags n i₀ i = n - i
+
+loop-holds : tie.Need-loop-holds Inv-loop μ-loop
+loop-holds c = (omega arith, any-none _)
+
+optional-at-requires : tie.Need-optional-at-requires Inv-loop μ-loop
+optional-at-requires c κs = search needs
+
+point-over-requires : tie.Need-point-over-requires Inv-loop μ-loop
+point-over-requires c κs = search needs
+
+returns : tie.Need-returns Inv-loop μ-loop
+unfolding anyPoint
+returns c =
+    sym (any-at _ _ (c .before .before .before .before .loop .i) (omega arith) (ap pointOver (sym (c .before .before .optional-at .ensures)) ∙ sym (c .before .point-over .ensures) ∙ c .if1 .taken))
+
+add-i : tie.Need-add-i Inv-loop μ-loop
+add-i c = omega arith
+
+loop-less : tie.Need-loop-less Inv-loop μ-loop
+loop-less c = omega arith
+
+loop-again : tie.Need-loop-again Inv-loop μ-loop
+loop-again c =
+    (omega arith, any-more _ _ (c .before .before .before .before .loop .inv .1) (ap pointOver (sym (c .before .before .optional-at .ensures)) ∙ sym (c .before .point-over .ensures) ∙ c .if1 .left))
+
+returns-2 : tie.Need-returns-2 Inv-loop μ-loop
+unfolding anyPoint
+returns-2 c = any-end _ _ _ (c .before .loop .inv .0) (c .loop-test .left) (c .before .loop .inv .1)
+
+pub any-point-spec : {M : Type 1} → statement M
+any-point-spec =
+    tie.close
+    (tie.spec
+    Inv-loop
+    μ-loop
+    loop-holds
+    optional-at-requires
+    point-over-requires
+    returns
+    add-i
+    loop-less
+    loop-again
+    returns-2)
