@@ -1,0 +1,62 @@
+-- Numbers by their places in base 2 ^ m: one place, a part of the places, how large they are.
+use mathlib.Core.Path.{_≡_, refl, sym, ap, _∙_}
+use mathlib.Core.List.{List, [], _∷_}
+use Prim.Native.Nat.{ℕ, zero, suc, _+_, _-_, _*_, _/_, _%_, _^_, _≤_, _<_}
+use native.Mathlib.Nat.{zero-mul, mul-zero, mul-suc, mul-comm, mul-add, mul-assoc, add-assoc, add-zero, zero-add, one-mul, pow-zero, pow-succ', div-one, zero-div, suc-add, add-suc, add-comm}
+use native.Mathlib.Omega.{arith}
+use lib.ListN.{length, getD, take, drop}
+use lib.Arith.{digits-lt}
+use lib.Pow.{shr-shr, high, low, pow-add}
+use Rattle.rules.specs.Values.{number}
+
+-- each place holds less than B
+abbrev pub Below : ℕ → List ℕ → Type 0
+Below B l = (i : ℕ) → getD l i 0 < B
+
+-- the number from place k on
+pub number-at : (B : ℕ) (l : List ℕ) (k : ℕ) → number B (drop k l) ≡ getD l k 0 + B * number B (drop (suc k) l)
+unfolding number
+number-at B [] zero = rw (mul-zero B)
+number-at B [] (suc k) = rw (mul-zero B)
+number-at B (x ∷ l) zero = refl
+number-at B (x ∷ l) (suc k) = number-at B l k
+
+none : (B n : ℕ) → 0 ≡ 0 + B * number B (take n [])
+unfolding number
+none B zero = rw (mul-zero B)
+none B (suc n) = rw (mul-zero B)
+
+-- n + 1 places from place k on
+pub part-at : (B : ℕ) (l : List ℕ) (n k : ℕ) → number B (take (suc n) (drop k l)) ≡ getD l k 0 + B * number B (take n (drop (suc k) l))
+unfolding number
+part-at B [] n zero = none B n
+part-at B [] n (suc k) = none B n
+part-at B (x ∷ l) n zero = refl
+part-at B (x ∷ l) n (suc k) = part-at B l n k
+
+-- a part is two parts
+pub part-split : (B : ℕ) (l : List ℕ) (a b k : ℕ) → number B (take (a + b) (drop k l)) ≡ number B (take a (drop k l)) + B ^ a * number B (take b (drop (a + k) l))
+unfolding number
+part-split B l zero b k = rw (zero-add b, zero-add k, pow-zero B, one-mul (number B (take b (drop k l))), zero-add (number B (take b (drop k l))))
+part-split B l (suc a) b k =
+    let y : ℕ = number B (take b (drop (a + suc k) l)) in
+    rw (suc-add a b, part-at B l (a + b) k, part-split B l a b (suc k), part-at B l a k, mul-add B (number B (take a (drop (suc k) l))) (B ^ a * y), ← mul-assoc B (B ^ a) y, ← pow-succ' B a, suc-add a k, ← add-suc a k)
+    (omega arith)
+
+-- n places hold less than 2 ^ (m * n)
+pub part-lt : (m : ℕ) (l : List ℕ) → Below (2 ^ m) l → (n k : ℕ) → number (2 ^ m) (take n (drop k l)) < 2 ^ (m * n)
+unfolding number
+part-lt m l h zero k = rw (mul-zero m) (omega arith)
+part-lt m l h (suc n) k =
+    rw (part-at (2 ^ m) l n k, mul-suc m n, pow-add 2 (m * n) m, mul-comm (2 ^ m) (number (2 ^ m) (take n (drop (suc k) l))))
+    (omega (arith, digits-lt {q = number (2 ^ m) (take n (drop (suc k) l))} {m = 2 ^ (m * n)} (part-lt m l h n (suc k)) (h k)))
+
+-- what a number has from bit m * k on
+pub number-from : (m : ℕ) (l : List ℕ) → Below (2 ^ m) l → (k : ℕ) → number (2 ^ m) l / 2 ^ (m * k) ≡ number (2 ^ m) (drop k l)
+unfolding number
+number-from m l h zero = rw (mul-zero m) (div-one (number (2 ^ m) l))
+number-from m [] h (suc k) = zero-div (2 ^ (m * suc k))
+number-from m (x ∷ l) h (suc k) =
+    let one : number (2 ^ m) (x ∷ l) / 2 ^ m ≡ number (2 ^ m) l = rw (mul-comm (2 ^ m) (number (2 ^ m) l)) (ap (λ (y : ℕ). y / 2 ^ m) (add-comm x (number (2 ^ m) l * 2 ^ m)) ∙ high (number (2 ^ m) l) m (h 0)) in
+    let e : m * suc k ≡ m + m * k = mul-suc m k ∙ add-comm (m * k) m in
+    rw (e, ← shr-shr (number (2 ^ m) (x ∷ l)) m (m * k), one) (number-from m l (λ i. h (suc i)) k)

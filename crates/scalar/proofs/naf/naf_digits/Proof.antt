@@ -1,0 +1,130 @@
+-- The NAF recoder. The loop's invariant: what is done below pos, with the carry into it.
+use borrow.Author.Needs.{needs}
+use mathlib.Core.Path.{_≡_, _∙_, ap, sym}
+use mathlib.Core.Logic.{⊎-elim}
+use Prim.Native.Nat.{ℕ, _+_, _-_, _*_, _/_, _%_, _^_, _≤_, _<_}
+use native.Mathlib.Omega.{arith}
+use lib.Bits.{bitAnd}
+use lib.ListN.{take}
+use lib.Pow.{pow-pos}
+use mir.Facts.{toZ-ofZ}
+use Rattle.rules.specs.Values.{number, limb}
+use Rattle.laws.specs.Digits.{wide}
+use Rattle.scalar.proofs.Bits.{masked, even-bit, odd-bit}
+use Rattle.scalar.proofs.NafTurn.{Done, start, end, window-le, width-le, skip, put-low, put-high}
+use Rattle.scalar.proofs.naf.naf_digits.Statement.{statement}
+use Rattle.scalar.proofs.naf.naf_digits.Tie as tie
+use Rattle.scalar.proofs.naf.naf_digits.Reads as reads
+use Rattle.scalar.proofs.naf.naf_digits.Lts as lts
+use Rattle.scalar.proofs.naf.wrapping_digit.Reads as wrapping-digit-reads
+use Rattle.scalar.proofs.words.bit_buf.Reads as bit-buf-reads
+use Rattle.scalar.proofs.words.power.Reads as power-reads
+use Rattle.scalar.proofs.words.words.Reads as words-reads
+
+abbrev Inv-loop : tie.InvT-loop
+Inv-loop scalar w naf₀ x-u64 width window-mask pos₀ carry₀ naf pos carry = Done w (number 256 (take 32 scalar)) naf pos carry
+
+abbrev μ-loop : tie.MeasureT-loop
+μ-loop scalar w naf₀ x-u64 width window-mask pos₀ carry₀ naf pos carry = 256 - pos
+
+words-requires : tie.Need-words-requires Inv-loop μ-loop
+words-requires c κs = tt
+
+power-requires : tie.Need-power-requires Inv-loop μ-loop
+power-requires c κs = omega (arith, c .before .before .pre)
+
+sub-window-mask : tie.Need-sub-window-mask Inv-loop μ-loop
+sub-window-mask c = omega (arith, pow-pos (c .before .before .before .args .w))
+
+loop-holds : tie.Need-loop-holds Inv-loop μ-loop
+loop-holds c = start _ _
+
+bit-buf-requires : tie.Need-bit-buf-requires Inv-loop μ-loop
+bit-buf-requires c κs = (c .before .before .before .words .ensures .0, (c .loop-test .taken, c .before .before .before .before .before .pre .1))
+
+-- the window with the carry into it, as the laws say it
+window-is : (c : tie.After-bit-buf Inv-loop μ-loop) →
+    let h = c .before .before in
+    let a = h .before .before .before .before .args in
+    h .loop .carry + bitAnd (c .bit-buf .result) (h .before .power .result - 1) ≡ h .loop .carry + number 256 (take 32 (a .scalar .now)) / 2 ^ (h .loop .pos) % 2 ^ (a .w)
+window-is c =
+    let h = c .before .before in
+    let a = h .before .before .before .before .args in
+    ap (λ (x : ℕ). h .loop .carry + x)
+    (masked (c .bit-buf .result) (h .before .power .result) (a .w) _ (h .before .power .ensures)
+    (c .bit-buf .ensures ∙ ap (λ (n : ℕ). n / 2 ^ (h .loop .pos) % 2 ^ (a .w)) (h .before .before .words .ensures .1)))
+
+add-window : tie.Need-add-window Inv-loop μ-loop
+add-window c =
+    let h = c .before .before in
+    let p = h .before .before .before .before .pre in
+    omega (arith, window-le _ (p .0) (p .1) _ _ _ _ _ (h .loop .inv) (window-is c) (c .before .loop-test .taken), width-le _ (p .0) (p .1) _ _ _ _ _ (h .loop .inv) (window-is c) (c .before .loop-test .taken))
+
+add-pos : tie.Need-add-pos Inv-loop μ-loop
+add-pos c = omega (arith, c .before .before .loop-test .taken)
+
+loop-less : tie.Need-loop-less Inv-loop μ-loop
+loop-less c = omega (arith, c .before .before .loop-test .taken)
+
+loop-again : tie.Need-loop-again Inv-loop μ-loop
+loop-again c =
+    let h = c .before .before .before in
+    let p = h .before .before .before .before .pre in
+    skip _ (p .0) (p .1) _ _ _ _ _ (h .loop .inv) (window-is (c .before)) (c .before .before .loop-test .taken) (even-bit _ (c .if1 .taken))
+
+wrapping-digit-requires : tie.Need-wrapping-digit-requires Inv-loop μ-loop
+wrapping-digit-requires c κs = tt
+
+array-set-from-naf : tie.Need-array-set-from-naf Inv-loop μ-loop
+array-set-from-naf c = c .before .before .before .before .loop-test .taken
+
+wrapping-digit-requires-2 : tie.Need-wrapping-digit-requires-2 Inv-loop μ-loop
+wrapping-digit-requires-2 c κs = tt
+
+array-set-from-naf-2 : tie.Need-array-set-from-naf-2 Inv-loop μ-loop
+array-set-from-naf-2 c = c .before .before .before .before .loop-test .taken
+
+add-pos-2 : tie.Need-add-pos-2 Inv-loop μ-loop
+add-pos-2 c = omega (arith, c .before .before .before .loop-test .taken, c .before .before .before .before .before .before .before .before .pre)
+
+loop-less-2 : tie.Need-loop-less-2 Inv-loop μ-loop
+loop-less-2 c = omega (arith, c .before .before .before .loop-test .taken, c .before .before .before .before .before .before .before .before .pre)
+
+loop-again-2 : tie.Need-loop-again-2 Inv-loop μ-loop
+loop-again-2 c =
+    let h = c .before .before .before .before in
+    let p = h .before .before .before .before .pre in
+    let odd = odd-bit _ (c .before .if1 .left) in
+    ⊎-elim
+    (λ t. put-low _ (p .0) (p .1) _ _ _ _ _ (h .loop .inv) (window-is (c .before .before)) (c .before .before .before .loop-test .taken)
+    (h .before .power .result) (h .before .power .ensures) odd _ _ _ (t .2) (t .0 .taken) (toZ-ofZ (search needs) ∙ t .1 .ensures) (t .3))
+    (λ t. put-high _ (p .0) (p .1) _ _ _ _ _ (h .loop .inv) (window-is (c .before .before)) (c .before .before .before .loop-test .taken)
+    (h .before .power .result) (h .before .power .ensures) odd _ _ _ (t .2) (t .0 .left) (toZ-ofZ (search needs) ∙ t .1 .ensures) (t .3))
+    (c .if2 .came)
+
+returns : tie.Need-returns Inv-loop μ-loop
+returns c = end _ _ _ _ _ (c .before .loop .inv) (c .loop-test .left)
+
+pub naf-digits-spec : {M : Type 1} → statement M
+naf-digits-spec =
+    tie.close
+    (tie.spec
+    Inv-loop
+    μ-loop
+    words-requires
+    power-requires
+    sub-window-mask
+    loop-holds
+    bit-buf-requires
+    add-window
+    add-pos
+    loop-less
+    loop-again
+    wrapping-digit-requires
+    array-set-from-naf
+    wrapping-digit-requires-2
+    array-set-from-naf-2
+    add-pos-2
+    loop-less-2
+    loop-again-2
+    returns)

@@ -1,0 +1,95 @@
+-- A word, from its highest byte down. The loop's invariant: x is what the 8 - k bytes from place 8 * i + k on say.
+use Prim.Native.Nat.{ℕ, suc, _+_, _-_, _*_, _^_, _≤_, _<_}
+use mathlib.Core.Path.{_≡_, refl, sym, _∙_, ap}
+use mathlib.Core.List.{List}
+use native.Mathlib.Omega.{arith}
+use lib.ListN.{getD, take, drop}
+use lib.Pow.{pow-mono}
+use Rattle.rules.specs.Values.{number, limb}
+use Rattle.scalar.proofs.Base.{Below, part-at, part-lt}
+use Rattle.scalar.proofs.words.word.Statement.{statement}
+use Rattle.scalar.proofs.words.word.Tie as tie
+
+abbrev Inv-loop : tie.InvT-loop
+Inv-loop scalar i x₀ k₀ x k = (k ≤ 8) × (x ≡ number 256 (take (8 - k) (drop (8 * i + k) scalar)))
+
+abbrev μ-loop : tie.MeasureT-loop
+μ-loop scalar i x₀ k₀ x k = k
+
+loop-holds : tie.Need-loop-holds Inv-loop μ-loop
+unfolding number
+loop-holds c = (omega arith, refl)
+
+sub-k : tie.Need-sub-k Inv-loop μ-loop
+sub-k c = omega arith
+
+-- there is room for one byte more
+room : (l : List ℕ) → Below 256 l → (k n x : ℕ) → 0 < k → x ≡ number 256 (take (8 - k) (drop n l)) → x ≤ 72057594037927935
+room l b k n x h e =
+    let p : 2 ^ (8 * (8 - k)) ≤ 72057594037927936 = pow-mono {i = 8 * (8 - k)} {j = 56} (omega arith) in
+    omega (arith, part-lt 8 l b (8 - k) n)
+
+mul-x : tie.Need-mul-x Inv-loop μ-loop
+mul-x c =
+    let a = c .before .before .before .args in
+    omega (arith, room (a .scalar .now) (λ i. c .before .before .shared-slice-known .given i .fits) _ (8 * a .i + c .before .loop .k) _ (c .loop-test .taken) (c .before .loop .inv .1))
+
+mul-byte : tie.Need-mul-byte Inv-loop μ-loop
+mul-byte c = omega arith
+
+add-byte : tie.Need-add-byte Inv-loop μ-loop
+add-byte c = omega arith
+
+byte-requires : tie.Need-byte-requires Inv-loop μ-loop
+byte-requires c κs = tt
+
+add-x : tie.Need-add-x Inv-loop μ-loop
+add-x c =
+    let a = c .before .before .before .before .args in
+    omega (
+      arith,
+      c .byte .ensures .1,
+      room (a .scalar .now) (λ i. c .before .before .before .shared-slice-known .given i .fits) _ (8 * a .i + c .before .before .loop .k) _ (c .before .loop-test .taken) (c .before .before .loop .inv .1),
+    )
+
+loop-less : tie.Need-loop-less Inv-loop μ-loop
+loop-less c = omega arith
+
+turn : (l : List ℕ) (n k x y : ℕ) → 0 < k → k ≤ 8 → x ≡ number 256 (take (8 - k) (drop (n + k) l)) → y ≡ getD l (n + (k - 1)) 0
+    → x * 256 + y ≡ number 256 (take (8 - (k - 1)) (drop (n + (k - 1)) l))
+turn l n k x y h le e f =
+    let a : 8 - (k - 1) ≡ suc (8 - k) = omega arith in
+    let b : suc (n + (k - 1)) ≡ n + k = omega arith in
+    rw (a, part-at 256 l (8 - k) (n + (k - 1)), b) (omega arith)
+
+loop-again : tie.Need-loop-again Inv-loop μ-loop
+loop-again c = (
+  omega arith,
+  turn _ _ _ _ _ (c .before .loop-test .taken) (c .before .before .loop .inv .0) (c .before .before .loop .inv .1) (c .byte .ensures .0),
+)
+
+returns : tie.Need-returns Inv-loop μ-loop
+returns c =
+    let a = c .before .before .before .args in
+    let z : c .before .loop .k ≡ 0 = omega arith in
+    let p : 8 * a .i + 0 ≡ 8 * a .i = omega arith in
+    let e : c .before .loop .x ≡ number 256 (take 8 (drop (8 * a .i) (a .scalar .now))) =
+    c .before .loop .inv .1 ∙ rw z (ap (λ (n : ℕ). number 256 (take 8 (drop n (a .scalar .now)))) p) in
+    (e, omega (arith, part-lt 8 (a .scalar .now) (λ i. c .before .before .shared-slice-known .given i .fits) 8 (8 * a .i)))
+
+pub word-spec : {M : Type 1} → statement M
+word-spec =
+    tie.close
+    (tie.spec
+    Inv-loop
+    μ-loop
+    loop-holds
+    sub-k
+    mul-x
+    mul-byte
+    add-byte
+    byte-requires
+    add-x
+    loop-less
+    loop-again
+    returns)
