@@ -1,0 +1,51 @@
+// The walk down the columns of radix rows.
+ghost use mathlib.Core.Path.{_≡_};
+ghost use Prim.Native.Nat.{_-_, _^_, _≤_};
+ghost use lib.ListN.{length};
+ghost use Rattle.rules.specs.Rows.{usedPlaces};
+ghost use Rattle.pippenger.specs.Flat.{Walkable, Walked};
+use super::column::column;
+use rules::Walk;
+
+// The places that digits of this width use.
+fn places(w: usize) -> usize
+    requires { ⌜ (6 ≤ w) × (w ≤ 8) ⌝ }
+    ensures { λ r. ⌜ r ≡ usedPlaces w ⌝ }
+{
+    256 / w + 1
+}
+
+// The buckets that digits of this width need, one for each absolute value but 0: 128 at w = 8, half as many for each bit less.
+pub(crate) fn buckets_of(w: usize) -> usize
+    requires { ⌜ (6 ≤ w) × (w ≤ 8) ⌝ }
+    ensures { λ r. ⌜ r ≡ 2 ^ (w - 1) ⌝ }
+{
+    128usize >> (8 - w)
+}
+
+// The high column as it is, and from the place below it down w doublings and that place's column.
+pub(crate) fn walk(digits: &[i8], points: &[u64], m: usize, w: usize, buckets: &mut [u64]) -> Walk
+    requires { ⌜ Walkable (now digits) (now points) m w (length (now buckets)) ⌝ }
+    ensures { λ r. ⌜ Walked (now (digits .entry)) (now (points .entry)) m w (now (buckets .entry)) (now (buckets .exit)) r ⌝ }
+{
+    let n = buckets_of(w);
+    let c = places(w);
+    let hi = column(digits, points, m, c - 1, n, &mut *buckets);
+    let mut q = hi.element;
+    let mut additions = hi.additions;
+    let mut doublings: u64 = 0;
+    let mut j = c - 1;
+    while 0 < j {
+        j -= 1;
+        let col = column(digits, points, m, j, n, &mut *buckets);
+        let p = col.element;
+        q = residue::plus(residue::mul_by_pow_2(q, w), p);
+        additions += col.additions + 1;
+        doublings += w as u64;
+    }
+    Walk {
+        element: q,
+        additions,
+        doublings,
+    }
+}
