@@ -3,6 +3,6 @@ pub mod Puts
 pub mod Joined
 pub mod Passed
 mod Points
-mod Signed
+mod WildDigits
 mod Copies
 mod Clearing

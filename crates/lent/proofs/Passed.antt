@@ -12,8 +12,8 @@ use Rattle.rules.specs.Values.{valueOf, elementAt, pointAt, optionalAt, scalarA
 use Rattle.rules.specs.Group.{L}
 use Rattle.rules.specs.Numbers.{scalarBound}
 use Rattle.rules.specs.Windows.{over, anyOver}
-use Rattle.rules.specs.Lists.{notIn, beyondMost, scalarCount, pointCount, bigAt, anyBig, flagAt, anyFlag, pointOver, anyPoint, isAbsent, absentBelow}
-use Rattle.laws.specs.Conditions.{any-below}
+use Rattle.rules.specs.Lists.{notIn, beyondMost, scalarCount, pointCount, listsTooMany, bigAt, anyBig, flagAt, anyFlag, pointOver, anyPoint, isAbsent, absentBelow}
+use Rattle.laws.specs.Conditions.{or-split, any-below}
 
 pub whole : (unit n : ℕ) → notIn unit n ≡ false → n % unit ≡ 0
 unfolding notIn
@@ -22,6 +22,10 @@ whole unit n e = eqb-true (n % unit) 0 (not-false (eqb (n % unit) 0) e)
 pub few : (limit unit n : ℕ) → beyondMost limit unit n ≡ false → n / unit ≤ limit
 unfolding beyondMost
 few limit unit n e = ltb-false limit (n / unit) e
+
+pub lists-few : (ss ps : List ℕ) → listsTooMany ss ps ≡ false → (scalarCount ss ≤ 1024) × (pointCount ps ≤ 1024)
+unfolding listsTooMany
+lists-few ss ps e = let o = or-split _ _ e in (few 1024 32 (length ss) (o .0), few 1024 4 (length ps) (o .1))
 
 pub small : (ss : List ℕ) (i : ℕ) → anyBig ss ≡ false → i < scalarCount ss → scalarAt ss i < scalarBound
 unfolding anyBig bigAt

@@ -1,11 +1,11 @@
 -- A row or window put into its part: what the part holds then, and the list that it is a part of.
-use mathlib.Core.Path.{_≡_, refl, sym, _∙_}
+use mathlib.Core.Path.{_≡_, refl, sym, ap, _∙_}
 use mathlib.Core.Bool.{Bool, true, false, cond}
 use mathlib.Core.List.{List, _++_}
 use Prim.Native.Nat.{ℕ, _+_, _-_, _≤_}
 use native.Mathlib.Omega.{arith}
 use lib.ListN.{length, take, drop, length-drop}
-use lib.Seq.{length-take-le, drop-drop}
+use lib.Seq.{length-take-le}
 use lib.Dec.{eqb}
 use borrow.Author.Tests.{eq-eqb, ne-eqb, eqb-true}
 use Rattle.rules.specs.Lists.{put, stored}
@@ -36,5 +36,5 @@ module _ {A : Type 0} (a e : ℕ) (x l : List A) (long : e ≡ a + length x) (fi
   pub put-stored : take a l ++ (put x (take (e - a) (drop a l)) ++ drop (e - a) (drop a l)) ≡ stored a x l
   unfolding stored
   put-stored =
-      let k : a + (e - a) ≡ a + length x = omega arith in
-      rw (put-part, drop-drop (e - a) a l, k)
+      let k : e - a ≡ length x = omega arith in
+      ap (λ (y : List A). take a l ++ (y ++ drop (e - a) (drop a l))) put-part ∙ rw k

@@ -1,10 +1,9 @@
 // What every call asks of lent lists, each condition after its sentence in document 01's table of numbers.
 ghost use mathlib.Core.Path.{_≡_};
 ghost use Prim.Native.Nat.{min};
-ghost use lib.IntN.{natAbs};
 ghost use Rattle.rules.specs.Values.{optionalAt};
 ghost use Rattle.rules.specs.Windows.{anyOver};
-ghost use Rattle.rules.specs.Lists.{notIn, beyondMost, listsNotWhole, listsTooMany, anyBig, anyFlag, pointOver, anyPoint, absentBelow, wildDigit, anyWild};
+ghost use Rattle.rules.specs.Lists.{notIn, beyondMost, listsNotWhole, listsTooMany, anyBig, anyFlag, pointOver, anyPoint, badLists, absentBelow, wildDigit, anyWild};
 use rules::OptionalPoint;
 
 pub mod room;
@@ -126,6 +125,16 @@ pub fn any_point(points: &[u64], flags: &[u8]) -> bool
     false
 }
 
+// 7: whether a flag or a present point is bad.
+pub fn bad_lists(points: &[u64], flags: &[u8]) -> bool
+    ensures { λ r. ⌜ r ≡ badLists (now (points .entry)) (now (flags .entry)) ⌝ }
+{
+    if any_flag(flags) {
+        return true;
+    }
+    any_point(points, flags)
+}
+
 // 7 or 10: whether an element of flat limbs is at or above L.
 pub fn any_over(limbs: &[u64]) -> bool
     ensures { λ r. ⌜ r ≡ anyOver (now (limbs .entry)) ⌝ }
@@ -155,19 +164,11 @@ pub fn absent_below(points: &[u64], flags: &[u8], n: usize) -> bool
     false
 }
 
-// The absolute value of a digit, widened before it is negated.
-pub fn magnitude(d: i8) -> usize
-    ensures { λ r. ⌜ r ≡ natAbs d ⌝ }
-{
-    let x = d as i16;
-    if x < 0 { (-x) as usize } else { x as usize }
-}
-
 // Whether a digit is neither 0 nor odd within -15 to 15.
 pub fn wild(d: i8) -> bool
     ensures { λ r. ⌜ r ≡ wildDigit d ⌝ }
 {
-    let m = magnitude(d);
+    let m = digit::magnitude(d);
     if m == 0 {
         return false;
     }

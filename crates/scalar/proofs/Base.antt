@@ -1,13 +1,14 @@
 -- Numbers by their places in base 2 ^ m: one place, a part of the places, how large they are.
-use mathlib.Core.Path.{_≡_, refl, sym, ap, _∙_}
+use mathlib.Core.Path.{_≡_, refl, sym, ap, _∙_, subst}
 use mathlib.Core.List.{List, [], _∷_}
-use Prim.Native.Nat.{ℕ, zero, suc, _+_, _-_, _*_, _/_, _%_, _^_, _≤_, _<_}
-use native.Mathlib.Nat.{zero-mul, mul-zero, mul-suc, mul-comm, mul-add, mul-assoc, add-assoc, add-zero, zero-add, one-mul, pow-zero, pow-succ', div-one, zero-div, suc-add, add-suc, add-comm}
+use Prim.Native.Nat.{ℕ, zero, suc, _+_, _*_, _/_, _%_, _^_, _<_}
+use native.Mathlib.Nat.{mul-zero, mul-suc, mul-comm, mul-add, mul-assoc, zero-add, one-mul, pow-zero, pow-succ', div-one, zero-div, suc-add, add-suc, add-comm, mod-lt, mod-add-div}
 use native.Mathlib.Omega.{arith}
-use lib.ListN.{length, getD, take, drop}
+use native.Mathlib.Decide.{decLt}
+use lib.ListN.{length, getD, take, drop, List·getD-eq-default}
 use lib.Arith.{digits-lt}
-use lib.Pow.{shr-shr, high, low, pow-add}
-use Rattle.rules.specs.Values.{number}
+use lib.Pow.{shr-shr, shr-lt, high, pow-add, pow-pos}
+use Rattle.rules.specs.Values.{number, places}
 
 -- each place holds less than B
 abbrev pub Below : ℕ → List ℕ → Type 0
@@ -60,3 +61,34 @@ number-from m (x ∷ l) h (suc k) =
     let one : number (2 ^ m) (x ∷ l) / 2 ^ m ≡ number (2 ^ m) l = rw (mul-comm (2 ^ m) (number (2 ^ m) l)) (ap (λ (y : ℕ). y / 2 ^ m) (add-comm x (number (2 ^ m) l * 2 ^ m)) ∙ high (number (2 ^ m) l) m (h 0)) in
     let e : m * suc k ≡ m + m * k = mul-suc m k ∙ add-comm (m * k) m in
     rw (e, ← shr-shr (number (2 ^ m) (x ∷ l)) m (m * k), one) (number-from m l (λ i. h (suc i)) k)
+
+-- ---- the places of a number
+
+pub places-length : (B n v : ℕ) → length (places B n v) ≡ n
+unfolding places
+places-length B zero v = refl
+places-length B (suc n) v = ap suc (places-length B n (v / B))
+
+-- each is so many bits of it
+pub places-at : (m n v i : ℕ) → i < n → getD (places (2 ^ m) n v) i 0 ≡ v / 2 ^ (m * i) % 2 ^ m
+unfolding places
+places-at m zero v i h = absurd (omega arith)
+places-at m (suc n) v zero h = rw (mul-zero m) (ap (λ (x : ℕ). x % 2 ^ m) (sym (div-one v)))
+places-at m (suc n) v (suc i) h =
+    let e : m * suc i ≡ m + m * i = mul-suc m i ∙ add-comm (m * i) m in
+    rw (e, ← shr-shr v m (m * i)) (places-at m n (v / 2 ^ m) i (omega arith))
+
+pub places-below : (m n v : ℕ) → Below (2 ^ m) (places (2 ^ m) n v)
+places-below m n v i = go (decLt i n)
+  where
+    go : Dec (i < n) → getD (places (2 ^ m) n v) i 0 < 2 ^ m
+    go (yes h) = rw (places-at m n v i h) (mod-lt (v / 2 ^ (m * i)) (pow-pos m))
+    go (no h) = rw (List·getD-eq-default (places (2 ^ m) n v) 0 {n = i} (omega (arith, places-length (2 ^ m) n v))) (pow-pos m)
+
+-- they say it again, where there are enough
+pub number-places : (m n v : ℕ) → v < 2 ^ (m * n) → number (2 ^ m) (places (2 ^ m) n v) ≡ v
+unfolding places number
+number-places m zero v h = let l : v < 1 = subst (λ (x : ℕ). v < 2 ^ x) (mul-zero m) h in omega arith
+number-places m (suc n) v h =
+    let e : m * suc n ≡ m * n + m = mul-suc m n in
+    rw (number-places m n (v / 2 ^ m) (shr-lt (m * n) m (subst (λ (x : ℕ). v < 2 ^ x) e h))) (mod-add-div v (2 ^ m))

@@ -1,5 +1,5 @@
 -- The bits of a number that words say: w of them from bit pos on stand in one word, or in two neighbouring ones.
-use mathlib.Core.Path.{_≡_, refl, sym, ap, _∙_}
+use mathlib.Core.Path.{_≡_, sym, ap, _∙_}
 use mathlib.Core.List.{List}
 use Prim.Native.Nat.{ℕ, suc, _+_, _-_, _*_, _/_, _%_, _^_, _≤_, _<_}
 use native.Mathlib.Nat.{mul-assoc, mul-comm, mul-mod-left, mul-add-div-right, add-mul-mod-self-left, add-comm}

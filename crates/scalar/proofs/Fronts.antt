@@ -1,57 +1,57 @@
--- What the fronts answer: by the width alone, refused, and done.
-use mathlib.Core.Path.{_≡_, refl, sym, ap, _∙_}
-use mathlib.Core.Bool.{Bool, true, false, cond, not, _||_}
+-- What the fronts answer: by the width, refused, and done.
+use mathlib.Core.Path.{_≡_, sym, ap, _∙_}
+use mathlib.Core.Bool.{Bool, true, false}
 use mathlib.Core.List.{List, [], _∷_}
 use Prim.Native.Nat.{ℕ, _≤_, _<_}
 use native.Mathlib.Omega.{arith}
 use lib.ListN.{length, replicate, take}
 use lib.Seq.{take-all}
-use lib.IntN.{ℤ, pos}
+use lib.IntN.{ℤ, pos, natAbs}
 use lib.Dec.{eqb, ltb}
-use borrow.Author.Tests.{eq-eqb, ne-eqb, lt-ltb, le-ltb, eqb-true}
-use Rattle.rules.specs.Values.{number}
-use Rattle.rules.specs.Numbers.{first, given, nafAnswer, radixAnswer}
-use Rattle.rules.specs.Rows.{notLong, widthOff, rowless, recodeRefusal, nafRow, nafRowOf, nafOf, radixRow, radixRowOf, radixOf}
+use borrow.Author.Tests.{eq-eqb, lt-ltb, le-ltb, eqb-true, ltb-false, not-false}
+use Rattle.rules.specs.declared.ScalarBytes.{ScalarBytes}
+use Rattle.rules.specs.Values.{number, places}
+use Rattle.rules.specs.Numbers.{first, nafAnswer, radixAnswer, bytesAnswer}
+use Rattle.laws.specs.Conditions.{first-none, given-done, given-refused, given-same, or-left, or-right, or-split}
+use Rattle.rules.specs.Rows.{notLong, widthOff, rowless, recodeRefusal, noScalar, nafRow, nafRowOf, nafOf, radixRow, radixRowOf, radixOf}
+use Rattle.scalar.specs.Readers.{shapeRefusal}
 
 -- ---- the width
 
 pub too-low : (low w : ℕ) → w < low → widthOff low w ≡ true
 unfolding widthOff
-too-low low w h = rw (lt-ltb w low h)
+too-low low w h = or-left (ltb w low) (ltb 8 w) (lt-ltb w low h)
 
 pub too-high : (low w : ℕ) → 8 < w → widthOff low w ≡ true
 unfolding widthOff
-too-high low w h = go (ltb w low)
-  where
-    go : (b : Bool) → (b || ltb 8 w) ≡ true
-    go true = refl
-    go false = lt-ltb 8 w h
+too-high low w h = or-right (ltb w low) (ltb 8 w) (lt-ltb 8 w h)
 
 pub within : (low w : ℕ) → low ≤ w → w ≤ 8 → widthOff low w ≡ false
 unfolding widthOff
 within low w l h = rw (le-ltb w low l, le-ltb 8 w h)
 
--- ---- an answer carries zeros where it is refused, and the row where it is done
+pub width-in : (low w : ℕ) → widthOff low w ≡ false → (low ≤ w) × (w ≤ 8)
+unfolding widthOff
+width-in low w e = let p = or-split (ltb w low) (ltb 8 w) e in (ltb-false w low (p .0), ltb-false 8 w (p .1))
 
-pub refused : {A : Type 0} (n : ℕ) (z x : A) → (n ≡ 0 → ⊥) → given n z x ≡ z
-unfolding given
-refused n z x h = rw (ne-eqb n 0 h)
+-- ---- the length
 
-pub done : {A : Type 0} (n : ℕ) (z x : A) → n ≡ 0 → given n z x ≡ x
-unfolding given
-done n z x e = rw (eq-eqb n 0 e)
+pub is-long : {A : Type 0} (n : ℕ) (l : List A) → length l ≡ n → notLong n l ≡ false
+unfolding notLong
+is-long n l e = rw (eq-eqb (length l) n e)
+
+pub long-is : {A : Type 0} (n : ℕ) (l : List A) → notLong n l ≡ false → length l ≡ n
+unfolding notLong
+long-is n l e = eqb-true (length l) n (not-false (eqb (length l) n) e)
 
 -- ---- where a recoding refuses nothing
 
-pub passed : (low : ℕ) (l : List ℕ) (w : ℕ) → recodeRefusal low l w ≡ 0 → (length l ≡ 32) × (widthOff low w ≡ false)
-unfolding recodeRefusal first notLong
-passed low l w e = go (eqb (length l) 32) refl (widthOff low w) refl (rowless l) e
-  where
-    go : (a : Bool) → eqb (length l) 32 ≡ a → (b : Bool) → widthOff low w ≡ b → (c : Bool)
-        → _≡_ {A = ℕ} (cond (not a) 1 (cond b 3 (cond c 6 0))) 0 → (length l ≡ 32) × (widthOff low w ≡ false)
-    go true p false q c e = (eqb-true (length l) 32 p, q)
-    go true p true q c e = absurd (omega arith)
-    go false p b q c e = absurd (omega arith)
+pub passed : (low : ℕ) (l : List ℕ) (w : ℕ) → 0 ≡ recodeRefusal low l w → (length l ≡ 32) × ((widthOff low w ≡ false) × (rowless l ≡ false))
+unfolding recodeRefusal
+passed low l w e =
+    let p = first-none _ 1 _ (λ q. omega arith) e in
+    let q = first-none _ 3 _ (λ q. omega arith) (p .1) in
+    (long-is 32 l (p .0), (q .0, first-none _ 6 _ (λ q. omega arith) (q .1) .0))
 
 -- of 32 bytes, all are taken
 pub all-taken : (l : List ℕ) → length l ≡ 32 → take 32 l ≡ l
@@ -60,20 +60,54 @@ all-taken l e = take-all 32 l (omega arith)
 module _ (l : List ℕ) (w n : ℕ) where
   pub naf-refused : n ≡ recodeRefusal 2 l w → (n ≡ 0 → ⊥) → record { number = n; row = replicate 256 (pos 0) } ≡ nafOf l w
   unfolding nafOf nafAnswer
-  naf-refused e h = rw (← e, refused n (replicate 256 (pos 0)) (nafRow w (number 256 l)) h)
+  naf-refused e h = rw (← e, given-refused (replicate 256 (pos 0)) (nafRow w (number 256 l)) n h)
 
   pub naf-done : n ≡ recodeRefusal 2 l w → n ≡ 0 → (row : List ℤ) → row ≡ nafRowOf l w → record { number = n; row = row } ≡ nafOf l w
   unfolding nafOf nafAnswer nafRowOf
   naf-done e z row r =
-      let p : (length l ≡ 32) × (widthOff 2 w ≡ false) = passed 2 l w (sym e ∙ z) in
-      rw (← e, done n (replicate 256 (pos 0)) (nafRow w (number 256 l)) z) (ap (λ (x : List ℤ). record { number = n; row = x }) (r ∙ rw (p .1, all-taken l (p .0))))
+      let p = passed 2 l w (sym z ∙ e) in
+      rw (← e, z, given-done (replicate 256 (pos 0)) (nafRow w (number 256 l))) (ap (λ (x : List ℤ). record { number = 0; row = x }) (r ∙ rw (p .1 .0, all-taken l (p .0))))
 
   pub radix-refused : n ≡ recodeRefusal 4 l w → (n ≡ 0 → ⊥) → record { number = n; row = replicate 64 (pos 0) } ≡ radixOf l w
   unfolding radixOf radixAnswer
-  radix-refused e h = rw (← e, refused n (replicate 64 (pos 0)) (radixRow w (number 256 l)) h)
+  radix-refused e h = rw (← e, given-refused (replicate 64 (pos 0)) (radixRow w (number 256 l)) n h)
 
   pub radix-done : n ≡ recodeRefusal 4 l w → n ≡ 0 → (row : List ℤ) → row ≡ radixRowOf l w → record { number = n; row = row } ≡ radixOf l w
   unfolding radixOf radixAnswer radixRowOf
   radix-done e z row r =
-      let p : (length l ≡ 32) × (widthOff 4 w ≡ false) = passed 4 l w (sym e ∙ z) in
-      rw (← e, done n (replicate 64 (pos 0)) (radixRow w (number 256 l)) z) (ap (λ (x : List ℤ). record { number = n; row = x }) (r ∙ rw (p .1, all-taken l (p .0))))
+      let p = passed 4 l w (sym z ∙ e) in
+      rw (← e, z, given-done (replicate 64 (pos 0)) (radixRow w (number 256 l))) (ap (λ (x : List ℤ). record { number = 0; row = x }) (r ∙ rw (p .1 .0, all-taken l (p .0))))
+
+-- ---- the readers
+
+pub shape-passed : (n low : ℕ) (row : List ℤ) (w : ℕ) → 0 ≡ shapeRefusal n low row w → (length row ≡ n) × (widthOff low w ≡ false)
+unfolding shapeRefusal
+shape-passed n low row w e =
+    let p = first-none _ 1 _ (λ q. omega arith) e in
+    (long-is n row (p .0), first-none _ 3 _ (λ q. omega arith) (p .1) .0)
+
+-- row a list of n digits, low the least width, z what it sums to
+module _ (n low w : ℕ) (rowOf : ℕ → List ℤ) (row : List ℤ) (z : ℤ) where
+  abbrev pub readRefusal : ℕ
+  readRefusal = first ((notLong n row, 1) ∷ (widthOff low w, 3) ∷ (noScalar rowOf z row, 10) ∷ [])
+
+  -- refused for its shape
+  pub read-refused : (k : ℕ) (r : ScalarBytes) → k ≡ shapeRefusal n low row w → (k ≡ 0 → ⊥) → r ≡ bytesAnswer k 0 → r ≡ bytesAnswer readRefusal (natAbs z)
+  unfolding shapeRefusal first bytesAnswer
+  read-refused k r e h f =
+      f ∙ rw (go (notLong n row) (widthOff low w) e, given-refused 0 (natAbs z) k h, given-same {A = ℕ} k 0)
+    where
+      go : (a b : Bool) → k ≡ first ((a, 1) ∷ (b, 3) ∷ []) → first ((a, 1) ∷ (b, 3) ∷ (noScalar rowOf z row, 10) ∷ []) ≡ k
+      go true b q = sym q
+      go false true q = sym q
+      go false false q = absurd (h q)
+
+  -- where its shape is right, it is answered by whether a scalar has it
+  module _ (right : 0 ≡ shapeRefusal n low row w) where
+    pub read-none : noScalar rowOf z row ≡ true → bytesAnswer 10 0 ≡ bytesAnswer readRefusal (natAbs z)
+    unfolding first bytesAnswer
+    read-none h = let p = shape-passed n low row w right in rw (is-long n row (p .0), p .1, h, given-refused 0 (natAbs z) 10 (λ e. omega arith), given-same {A = ℕ} 10 0)
+
+    pub read-found : noScalar rowOf z row ≡ false → (bytes : List ℕ) → bytes ≡ places 256 32 (natAbs z) → record { number = 0; bytes = bytes } ≡ bytesAnswer readRefusal (natAbs z)
+    unfolding first bytesAnswer
+    read-found h bytes e = let p = shape-passed n low row w right in rw (is-long n row (p .0), p .1, h, given-done 0 (natAbs z), e)

@@ -1,14 +1,21 @@
 -- Signed integers of the machine: what its casts, shifts and differences are as numbers.
 use mathlib.Core.Path.{_≡_, refl, sym, ap, _∙_}
+use mathlib.Core.Bool.{Bool, true, false}
 use Prim.Native.Nat.{ℕ, zero, suc, _+_, _-_, _*_, _/_, _%_, _^_, _≤_, _<_}
+use native.Mathlib.Nat.{zero-mul, one-mul}
 use native.Mathlib.Omega.{arith}
 use native.Mathlib.Decide.{decLt}
-use borrow.Author.Tests.{lt-ltb, le-ltb}
-use lib.IntN.{ℤ, pos, negsuc, natAbs, subℕ, _+ℤ_, _-ℤ_}
-use lib.Signed.{mag, shrZ}
+use borrow.Author.Tests.{lt-ltb, le-ltb, eq-eqb, ne-eqb}
+use lib.IntN.{ℤ, pos, negsuc, natAbs, subℕ, _+ℤ_, _-ℤ_, ℤ-discrete}
+use lib.Dec.{eqb}
+use lib.Signed.{shrZ}
+use lib.Pow.{pow-mono}
 use mir.Syntax.{w8, w16, w64}
 use mir.Val.{SFits, toZ, ofZ}
 use mir.Facts.{toZ-pos, toZ-neg, toZ-ofZ, sfits-widen}
+use Rattle.rules.specs.Rows.{centred, sameDigit}
+use Rattle.laws.specs.Digits.{wide, carry, carry-low, carry-high, window-le, centred-window}
+use Rattle.laws.specs.RowsRead.{same-digit}
 use Rattle.scalar.specs.Nibbles.{Small}
 use Rattle.scalar.specs.Wrap.{wrapped}
 
@@ -48,6 +55,26 @@ wrapped-is v c a b h = go ((v % 256 + (256 - c % 256)) % 256) refl (decLt ((v % 
         let q : 255 - r ≡ c - suc v = omega arith in
         let f : 256 - suc (255 - r) ≡ r = omega arith in
         ap (toZ w8) (sym f) ∙ toZ-neg w8 (255 - r) (omega arith) ∙ rw (lt-ltb v c p) (ap negsuc q)
+
+-- ---- a window less what it carries out is from -128 to 127
+
+module _ (w v : ℕ) (lo : 1 ≤ w) (hi : w ≤ 8) (le : v ≤ 2 ^ w) where
+  pub near : (carry w v * 2 ^ w ≤ 256) × ((carry w v * 2 ^ w ≤ v + 128) × (v < carry w v * 2 ^ w + 128))
+  near = go (decLt v (2 ^ (w - 1)))
+    where
+      half : 2 ^ (w - 1) ≤ 128
+      half = pow-mono {i = w - 1} {j = 7} (omega arith)
+
+      go : Dec (v < 2 ^ (w - 1)) → (carry w v * 2 ^ w ≤ 256) × ((carry w v * 2 ^ w ≤ v + 128) × (v < carry w v * 2 ^ w + 128))
+      go (yes l) = rw (carry-low w v lo l, zero-mul (2 ^ w)) (omega (arith, half))
+      go (no l) = rw (carry-high w v lo (omega arith) le, one-mul (2 ^ w)) (omega (arith, half, wide w lo))
+
+  pub wrapped-window : wrapped v (carry w v * 2 ^ w) ≡ subℕ v (carry w v * 2 ^ w)
+  wrapped-window = wrapped-is v (carry w v * 2 ^ w) (omega (arith, near)) (near .1 .0) (near .1 .1)
+
+-- so a NAF digit, narrowed with wrap, is the lowest w bits read as signed, at w = 8 too
+pub wrapped-centred : (w m c : ℕ) → 1 ≤ w → w ≤ 8 → c ≤ 1 → wrapped (m % 2 ^ w + c) (carry w (m % 2 ^ w + c) * 2 ^ w) ≡ centred w (m + c)
+wrapped-centred w m c lo hi bit = wrapped-window w (m % 2 ^ w + c) lo hi (window-le w m c bit) ∙ sym (centred-window w m c lo bit)
 
 -- ---- digits from 0 to 16
 
@@ -135,3 +162,18 @@ module _ (d : ℤ) (n : ℕ) (f : SFits w8 d) (lt : n < 128) (g : SFits w8 (d +�
 
   pub fold-is : toZ w8 (ofZ w8 (toZ w8 (ofZ w8 d) +ℤ toZ w8 n)) ≡ d +ℤ pos n
   fold-is = toZ-ofZ fold-fits ∙ fold
+
+-- ---- digits are the same where their bits are
+
+pub same-bits : (x y : ℤ) → SFits w8 x → SFits w8 y → eqb (ofZ w8 x) (ofZ w8 y) ≡ sameDigit x y
+same-bits x y f g = go (ℤ-discrete x y)
+  where
+    go : Dec (x ≡ y) → eqb (ofZ w8 x) (ofZ w8 y) ≡ sameDigit x y
+    go (yes e) = eq-eqb (ofZ w8 x) (ofZ w8 y) (ap (ofZ w8) e) ∙ sym (same-digit x y .1 e)
+    go (no n) =
+        ne-eqb (ofZ w8 x) (ofZ w8 y) (λ e. n (sym (toZ-ofZ f) ∙ ap (toZ w8) e ∙ toZ-ofZ g))
+        ∙ sym (not-true (sameDigit x y) (λ e. n (same-digit x y .0 e)))
+      where
+        not-true : (b : Bool) → (b ≡ true → ⊥) → b ≡ false
+        not-true true h = absurd (h refl)
+        not-true false h = refl

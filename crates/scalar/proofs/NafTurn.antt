@@ -1,20 +1,20 @@
 -- The turns of the NAF recoder, by the width: what is done below a place, what waits from it on.
-use mathlib.Core.Path.{_≡_, refl, sym, ap, _∙_}
+use mathlib.Core.Path.{_≡_, refl, sym, _∙_}
 use mathlib.Core.List.{List}
 use Prim.Native.Nat.{ℕ, _+_, _-_, _*_, _/_, _%_, _^_, _≤_, _<_}
 use native.Mathlib.Nat.{zero-mul, one-mul, mod-lt}
 use native.Mathlib.Omega.{arith}
 use native.Mathlib.Decide.{decLt, ℕ-discrete}
-use lib.ListN.{length, getD, set, replicate, length-set}
+use lib.ListN.{length, set, replicate, length-set}
 use lib.Seq.{getD-set-same, getD-set-other, ext-getD}
 use lib.Pow.{pow-pos, pow-mono}
-use lib.IntN.{ℤ, pos, subℕ}
-use Rattle.rules.specs.Rows.{digit, centred, nafRow}
+use lib.IntN.{ℤ, pos}
+use Rattle.rules.specs.Rows.{digit, nafRow}
 use Rattle.laws.specs.DigitsSum.{getD-zeros}
-use Rattle.laws.specs.Digits.{wide, carry, carry-low, carry-high, carry-bit, centred-window, after}
+use Rattle.laws.specs.Digits.{wide, carry, carry-low, carry-high, carry-bit, after}
 use Rattle.laws.specs.NafRows.{nafNext, naf-length, naf-start, naf-skip, naf-skipped, naf-put, naf-gap, naf-passed}
 use Rattle.scalar.specs.Wrap.{wrapped}
-use Rattle.scalar.proofs.Ints.{wrapped-is}
+use Rattle.scalar.proofs.Ints.{wrapped-window}
 
 -- what the recoder holds at place b of N: digits below b, the carry c into b
 pub record Done (w N : ℕ) (row : List ℤ) (b c : ℕ) : Type 0 where
@@ -66,7 +66,7 @@ module _ (w : ℕ) (lo : 2 ≤ w) (hi : w ≤ 8) (N : ℕ) (row : List ℤ) (b c
           rw e (d .rest b (omega arith) ∙ sym (naf-skip w lo N b c (d .bit) (d .state) p at))
 
   -- an odd one, with the digit x and the carry k out of it
-  put : (x : ℤ) (k : ℕ) → v % 2 ≡ 1 → k ≡ carry w v → x ≡ subℕ v (k * 2 ^ w) → Done w N (set row b x) (b + w) k
+  put : (x : ℤ) (k : ℕ) → v % 2 ≡ 1 → k ≡ carry w v → x ≡ wrapped v (k * 2 ^ w) → Done w N (set row b x) (b + w) k
   put x k e f g =
       let p : (N / 2 ^ b % 2 ^ w + c) % 2 ≡ 1 = rw turned e in
       record {
@@ -79,7 +79,7 @@ module _ (w : ℕ) (lo : 2 ≤ w) (hi : w ≤ 8) (N : ℕ) (row : List ℤ) (b c
     where
       go : (N / 2 ^ b % 2 ^ w + c) % 2 ≡ 1 → (j : ℕ) → j < 256 → Dec (j ≡ b) → Dec (j < b) → j < b + w → digit (set row b x) j ≡ digit (nafRow w N) j
       go p j l (yes q) _ h =
-          rw q (getD-set-same row b x (pos 0) (omega (arith, d .long)) ∙ g ∙ rw f (sym (naf-put w lo N b c (d .bit) (d .state) p at ∙ rw turned)))
+          rw q (getD-set-same row b x (pos 0) (omega (arith, d .long)) ∙ g ∙ rw f (wrapped-window w v (omega arith) hi window-le ∙ sym (naf-put w lo N b c (d .bit) (d .state) p at ∙ rw turned)))
       go p j l (no q) (yes r) h = getD-set-other row b j x (pos 0) q ∙ d .done j r l
       go p j l (no q) (no r) h =
           getD-set-other row b j x (pos 0) q ∙ d .rest j (omega arith) ∙ sym (naf-gap w lo N b c (d .bit) (d .state) p j (omega arith) h)
@@ -90,13 +90,7 @@ module _ (w : ℕ) (lo : 2 ≤ w) (hi : w ≤ 8) (N : ℕ) (row : List ℤ) (b c
     half = wide w (omega arith)
 
     pub put-low : v < F / 2 → x ≡ wrapped v 0 → k ≡ 0 → Done w N row′ (b + w) k
-    put-low l g z =
-        rw (stored, z)
-        (put x 0 odd (sym (carry-low w v (omega arith) (omega (arith, half))))
-        (g ∙ wrapped-is v 0 (omega (arith, window-le, width-le)) (omega arith) (omega (arith, half, width-le)) ∙ rw (zero-mul (2 ^ w))))
+    put-low l g z = rw (stored, z) (put x 0 odd (sym (carry-low w v (omega arith) (omega (arith, half)))) (g ∙ rw zero-mul))
 
     pub put-high : F / 2 ≤ v → x ≡ wrapped v F → k ≡ 1 → Done w N row′ (b + w) k
-    put-high l g z =
-        rw (stored, z)
-        (put x 1 odd (sym (carry-high w v (omega arith) (omega (arith, half)) window-le))
-        (g ∙ rw full (wrapped-is v (2 ^ w) (omega (arith, window-le, width-le)) (omega (arith, half, width-le)) (omega (arith, window-le)) ∙ rw one-mul)))
+    put-high l g z = rw (stored, z) (put x 1 odd (sym (carry-high w v (omega arith) (omega (arith, half)) window-le)) (g ∙ rw (full, one-mul)))

@@ -1,10 +1,10 @@
 -- A scalar's bytes taken apart into digits of four bits, and the turns that recentre them.
 use mathlib.Core.Path.{_≡_, refl, sym, ap, _∙_}
 use mathlib.Core.List.{List}
-use Prim.Native.Nat.{ℕ, suc, _+_, _-_, _*_, _/_, _%_, _^_, _≤_, _<_}
+use Prim.Native.Nat.{ℕ, _+_, _*_, _/_, _%_, _^_, _≤_, _<_}
 use native.Mathlib.Omega.{arith}
 use native.Mathlib.Decide.{decLt, ℕ-discrete}
-use lib.ListN.{length, getD, set, take, drop, replicate, length-set, length-take, List·getD-eq-default}
+use lib.ListN.{length, getD, set, take, replicate, length-set, length-take, List·getD-eq-default}
 use lib.Seq.{getD-set-same, getD-set-other, getD-take, ext-getD}
 use lib.Pow.{shr-shr}
 use lib.IntN.{ℤ, pos, natAbs, subℕ}

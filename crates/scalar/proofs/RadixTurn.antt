@@ -2,23 +2,22 @@
 use mathlib.Core.Path.{_≡_, refl, sym, ap, _∙_, subst}
 use mathlib.Core.List.{List}
 use Prim.Native.Nat.{ℕ, zero, suc, _+_, _-_, _*_, _/_, _%_, _^_, _≤_, _<_}
-use native.Mathlib.Nat.{zero-mul, one-mul, mul-comm, mod-lt, mod-eq-of-lt, div-eq-of-lt}
+use native.Mathlib.Nat.{zero-mul, mul-comm, mod-lt, mod-eq-of-lt, div-eq-of-lt}
 use native.Mathlib.Omega.{arith}
 use native.Mathlib.Decide.{decLt, ℕ-discrete}
 use lib.ListN.{length, set, replicate, length-set}
 use lib.Seq.{getD-set-same, getD-set-other, ext-getD}
 use lib.Pow.{pow-pos, pow-mono}
 use lib.IntN.{ℤ, pos, subℕ, _+ℤ_, +ℤ-idr}
-use lib.Signed.{mag}
 use borrow.Author.Tests.{le-ltb}
 use mir.Syntax.{w8}
 use mir.Val.{SFits, toZ, ofZ}
 use mir.Facts.{toZ-ofZ}
 use Rattle.rules.specs.Rows.{digit, above, radixRow, usedPlaces}
 use Rattle.laws.specs.DigitsSum.{getD-zeros}
-use Rattle.laws.specs.Digits.{wide, carry, carry-low, carry-high, carry-bit, after, after-next}
+use Rattle.laws.specs.Digits.{wide, carry, carry-bit, after, after-next}
 use Rattle.laws.specs.RadixRows.{radix-length, radix-last, radix-rest, radix-last-flat, radix-byte, radix-start, radix-state, radix-window, radix-window-last, radix-window-flat}
-use Rattle.scalar.proofs.Ints.{fits8}
+use Rattle.scalar.proofs.Ints.{fits8, near}
 
 -- ---- how many windows there are
 
@@ -105,23 +104,15 @@ module _ (w N : ℕ) (s : Scope w N) where
     pub out-le : (v + F / 2) / 2 ^ w ≤ 1
     out-le = rw out-is (carry-bit w v (omega arith) le-full)
 
-    -- the carry out shifted back is near the window
-    near : (carry w v * 2 ^ w ≤ 256) × ((carry w v * 2 ^ w ≤ v + 128) × (v < carry w v * 2 ^ w + 128))
-    near = go (decLt v (2 ^ (w - 1)))
-      where
-        half : 2 ^ (w - 1) ≤ 128
-        half = pow-mono {i = w - 1} {j = 7} (omega arith)
+    close : (carry w v * 2 ^ w ≤ 256) × ((carry w v * 2 ^ w ≤ v + 128) × (v < carry w v * 2 ^ w + 128))
+    close = near w v (omega (arith, lo)) hi le-full
 
-        go : Dec (v < 2 ^ (w - 1)) → (carry w v * 2 ^ w ≤ 256) × ((carry w v * 2 ^ w ≤ v + 128) × (v < carry w v * 2 ^ w + 128))
-        go (yes l) = rw (carry-low w v (omega arith) l, zero-mul (2 ^ w)) (omega (arith, half))
-        go (no l) = rw (carry-high w v (omega arith) (omega arith) le-full, one-mul (2 ^ w)) (omega (arith, half, wide w (omega arith), le-full))
-
-    -- and the machine has it so
+    -- the carry out shifted back, as the machine has it
     shifted-is : (v + F / 2) / 2 ^ w * 2 ^ w % 2 ^ 64 ≡ carry w v * 2 ^ w
-    shifted-is = rw out-is (mod-eq-of-lt (omega (arith, near .0)))
+    shifted-is = rw out-is (mod-eq-of-lt (omega (arith, close .0)))
 
     pub digit-asks : (v < 512) × (((v + F / 2) / 2 ^ w * 2 ^ w % 2 ^ 64 ≤ v + 128) × (v < (v + F / 2) / 2 ^ w * 2 ^ w % 2 ^ 64 + 128))
-    digit-asks = rw shifted-is (omega (arith, coef-le .0), near .1)
+    digit-asks = rw shifted-is (omega (arith, coef-le .0), close .1)
 
     pub part-more : (n : ℕ) → Counted w n → i < n → (x : ℤ) → x ≡ subℕ v ((v + F / 2) / 2 ^ w * 2 ^ w % 2 ^ 64) → Part w N (set row i x) ((v + F / 2) / 2 ^ w) (i + 1)
     part-more n k lt x e =

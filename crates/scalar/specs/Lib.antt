@@ -1,3 +1,5 @@
 pub mod Nibbles
+pub mod Readers
+pub mod Sums
 pub mod Words
 pub mod Wrap

@@ -2,8 +2,8 @@
 use mathlib.Core.Path.{ap, _∙_}
 use lib.IntN.{natAbs}
 use borrow.Author.Needs.{needs}
-use Rattle.lent.proofs.Signed.{back8}
-use Rattle.lent.proofs.Signed.{no-digit, even-digit, odd-digit}
+use Rattle.digit.proofs.Machine.{back8}
+use Rattle.lent.proofs.WildDigits.{no-digit, even-digit, odd-digit}
 use Rattle.lent.proofs.wild.Statement.{statement}
 use Rattle.lent.proofs.wild.Tie as tie
 

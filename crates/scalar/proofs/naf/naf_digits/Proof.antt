@@ -1,25 +1,18 @@
 -- The NAF recoder. The loop's invariant: what is done below pos, with the carry into it.
 use borrow.Author.Needs.{needs}
-use mathlib.Core.Path.{_≡_, _∙_, ap, sym}
+use mathlib.Core.Path.{_≡_, _∙_, ap}
 use mathlib.Core.Logic.{⊎-elim}
-use Prim.Native.Nat.{ℕ, _+_, _-_, _*_, _/_, _%_, _^_, _≤_, _<_}
+use Prim.Native.Nat.{ℕ, _+_, _-_, _/_, _%_, _^_}
 use native.Mathlib.Omega.{arith}
 use lib.Bits.{bitAnd}
 use lib.ListN.{take}
 use lib.Pow.{pow-pos}
 use mir.Facts.{toZ-ofZ}
-use Rattle.rules.specs.Values.{number, limb}
-use Rattle.laws.specs.Digits.{wide}
+use Rattle.rules.specs.Values.{number}
 use Rattle.scalar.proofs.Bits.{masked, even-bit, odd-bit}
 use Rattle.scalar.proofs.NafTurn.{Done, start, end, window-le, width-le, skip, put-low, put-high}
 use Rattle.scalar.proofs.naf.naf_digits.Statement.{statement}
 use Rattle.scalar.proofs.naf.naf_digits.Tie as tie
-use Rattle.scalar.proofs.naf.naf_digits.Reads as reads
-use Rattle.scalar.proofs.naf.naf_digits.Lts as lts
-use Rattle.scalar.proofs.naf.wrapping_digit.Reads as wrapping-digit-reads
-use Rattle.scalar.proofs.words.bit_buf.Reads as bit-buf-reads
-use Rattle.scalar.proofs.words.power.Reads as power-reads
-use Rattle.scalar.proofs.words.words.Reads as words-reads
 
 abbrev Inv-loop : tie.InvT-loop
 Inv-loop scalar w naf₀ x-u64 width window-mask pos₀ carry₀ naf pos carry = Done w (number 256 (take 32 scalar)) naf pos carry

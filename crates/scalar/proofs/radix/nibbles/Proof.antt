@@ -9,11 +9,6 @@ use Rattle.rules.specs.Values.{number}
 use Rattle.scalar.proofs.NibbleTurn.{Halves, halves-none, halves-more, halves-end, byte-is}
 use Rattle.scalar.proofs.radix.nibbles.Statement.{statement}
 use Rattle.scalar.proofs.radix.nibbles.Tie as tie
-use Rattle.scalar.proofs.radix.nibbles.Reads as reads
-use Rattle.scalar.proofs.radix.nibbles.Lts as lts
-use Rattle.scalar.proofs.radix.bot_half.Reads as bot-half-reads
-use Rattle.scalar.proofs.radix.top_half.Reads as top-half-reads
-use Rattle.scalar.proofs.words.byte.Reads as byte-reads
 
 abbrev Inv-loop : tie.InvT-loop
 Inv-loop scalar output₀ i₀ output i = Halves output (number 256 (take 32 scalar)) i

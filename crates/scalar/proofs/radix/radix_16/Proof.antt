@@ -10,12 +10,6 @@ use Rattle.scalar.proofs.Base.{part-lt}
 use Rattle.scalar.proofs.NibbleTurn.{Centring, centring-none, centring-more, centring-end, small-here, small-carry, small-next}
 use Rattle.scalar.proofs.radix.radix_16.Statement.{statement}
 use Rattle.scalar.proofs.radix.radix_16.Tie as tie
-use Rattle.scalar.proofs.radix.radix_16.Reads as reads
-use Rattle.scalar.proofs.radix.radix_16.Lts as lts
-use Rattle.scalar.proofs.radix.carried.Reads as carried-reads
-use Rattle.scalar.proofs.radix.carry_of.Reads as carry-of-reads
-use Rattle.scalar.proofs.radix.nibbles.Reads as nibbles-reads
-use Rattle.scalar.proofs.radix.recentred.Reads as recentred-reads
 
 abbrev Inv-loop : tie.InvT-loop
 Inv-loop scalar output₀ i₀ output i = (i ≤ 63) × Centring (number 256 (take 32 scalar)) output i

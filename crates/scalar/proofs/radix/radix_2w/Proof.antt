@@ -1,25 +1,18 @@
 -- The radix recoder for w = 5 to 8. The loop's invariant: what is done below place i, with the carry into it.
 use borrow.Author.Needs.{needs}
-use mathlib.Core.Path.{_≡_, _∙_, ap, sym, subst}
-use Prim.Native.Nat.{ℕ, _+_, _-_, _*_, _/_, _%_, _^_, _≤_, _<_}
+use mathlib.Core.Path.{_≡_, _∙_, ap, subst}
+use Prim.Native.Nat.{ℕ, _+_, _-_, _*_, _/_, _%_, _^_, _≤_}
 use native.Mathlib.Omega.{arith}
 use lib.Bits.{bitAnd}
 use lib.ListN.{take}
 use lib.Pow.{pow-pos}
 use mir.Facts.{toZ-ofZ}
-use Rattle.rules.specs.Values.{number, limb}
+use Rattle.rules.specs.Values.{number}
 use Rattle.scalar.proofs.Base.{part-lt}
 use Rattle.scalar.proofs.Bits.{masked}
 use Rattle.scalar.proofs.RadixTurn.{Counted, counted, Scope, Part, part-none, coef-le, digit-asks, part-more, fold-eight, end-eight, fold-other, end-other}
 use Rattle.scalar.proofs.radix.radix_2w.Statement.{statement}
 use Rattle.scalar.proofs.radix.radix_2w.Tie as tie
-use Rattle.scalar.proofs.radix.radix_2w.Reads as reads
-use Rattle.scalar.proofs.radix.radix_2w.Lts as lts
-use Rattle.scalar.proofs.radix.digit.Reads as digit-reads
-use Rattle.scalar.proofs.radix.folded.Reads as folded-reads
-use Rattle.scalar.proofs.words.bit_buf.Reads as bit-buf-reads
-use Rattle.scalar.proofs.words.power.Reads as power-reads
-use Rattle.scalar.proofs.words.words.Reads as words-reads
 
 abbrev Inv-loop : tie.InvT-loop
 Inv-loop scalar w x-u64 radix window-mask carry₀ digits₀ digits-count i₀ carry digits i = (i ≤ digits-count) × Part w (number 256 (take 32 scalar)) digits carry i

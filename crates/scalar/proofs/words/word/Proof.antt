@@ -1,11 +1,11 @@
 -- A word, from its highest byte down. The loop's invariant: x is what the 8 - k bytes from place 8 * i + k on say.
 use Prim.Native.Nat.{ℕ, suc, _+_, _-_, _*_, _^_, _≤_, _<_}
-use mathlib.Core.Path.{_≡_, refl, sym, _∙_, ap}
+use mathlib.Core.Path.{_≡_, refl, _∙_, ap}
 use mathlib.Core.List.{List}
 use native.Mathlib.Omega.{arith}
 use lib.ListN.{getD, take, drop}
 use lib.Pow.{pow-mono}
-use Rattle.rules.specs.Values.{number, limb}
+use Rattle.rules.specs.Values.{number}
 use Rattle.scalar.proofs.Base.{Below, part-at, part-lt}
 use Rattle.scalar.proofs.words.word.Statement.{statement}
 use Rattle.scalar.proofs.words.word.Tie as tie

@@ -1,13 +1,12 @@
 -- Four words and a fifth of 0 say what the first 32 bytes say.
 use borrow.Author.Needs.{needs}
-use mathlib.Core.Path.{_≡_, refl, sym, ap, _∙_}
+use mathlib.Core.Path.{_≡_, refl}
 use mathlib.Core.List.{List, [], _∷_}
-use Prim.Native.Nat.{ℕ, zero, suc, _+_, _*_, _^_, _<_}
+use Prim.Native.Nat.{ℕ, zero, suc, _+_, _*_, _<_}
 use native.Mathlib.Nat.{add-zero}
 use native.Mathlib.Omega.{arith}
 use lib.ListN.{getD, take, drop}
 use Rattle.rules.specs.Values.{number, limb}
-use Rattle.scalar.specs.Words.{Words}
 use Rattle.scalar.proofs.Base.{Below, part-split, part-lt}
 use Rattle.scalar.proofs.words.words.Statement.{statement}
 use Rattle.scalar.proofs.words.words.Tie as tie

@@ -1,0 +1,3 @@
+mod Steps
+mod Turns
+mod Walking

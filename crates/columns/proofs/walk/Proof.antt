@@ -1,0 +1,90 @@
+-- With j places still to come, the steps that are left lead from the running sum to the walked one.
+use mathlib.Core.Path.{_≡_, ap, _∙_}
+use Prim.Native.Nat.{ℕ, _+_, _*_, _^_, _≤_, _<_, min}
+use native.Mathlib.Omega.{arith}
+use borrow.Author.Needs.{needs}
+use Rattle.columns.proofs.Walking.{Walking, walking-none, walking-more, walking-passes, walking-passes′, walking-end}
+use Rattle.columns.proofs.walk.Statement.{statement}
+use Rattle.columns.proofs.walk.Tie as tie
+
+abbrev Inv-loop : tie.InvT-loop
+Inv-loop digits windows static-digits tables places m s n r₀ j₀ r j = Walking digits windows m static-digits tables s n r j
+
+abbrev μ-loop : tie.MeasureT-loop
+μ-loop digits windows static-digits tables places m s n r₀ j₀ r j = j
+
+windowed-requires : tie.Need-windowed-requires Inv-loop μ-loop
+windowed-requires c κs = search needs
+
+windowed-requires-2 : tie.Need-windowed-requires-2 Inv-loop μ-loop
+windowed-requires-2 c κs = search needs
+
+smaller-requires : tie.Need-smaller-requires Inv-loop μ-loop
+smaller-requires c κs = search needs
+
+identity-requires : tie.Need-identity-requires Inv-loop μ-loop
+identity-requires c κs = search needs
+
+loop-holds : tie.Need-loop-holds Inv-loop μ-loop
+loop-holds c = walking-none _ _ _ _ _ _ _ _ (c .identity .ensures)
+
+sub-j : tie.Need-sub-j Inv-loop μ-loop
+sub-j c = omega arith
+
+twice-requires : tie.Need-twice-requires Inv-loop μ-loop
+twice-requires c κs = search needs
+
+column-requires : tie.Need-column-requires Inv-loop μ-loop
+column-requires c κs =
+    let l = c .before .before .before in
+    let s = l .before .before in
+    let t = s .before .before .before .before .before in
+    walking-passes _ _ _ _ _ _ _ _ (s .before .before .windowed .ensures) (s .before .windowed2 .ensures) (s .smaller .ensures) _ _ (l .loop .inv)
+    (omega arith)
+    (t .good .0 .1)
+    (t .good .1 .1 .0 .1)
+
+column-requires-2 : tie.Need-column-requires-2 Inv-loop μ-loop
+column-requires-2 c κs =
+    let l = c .before .before .before .before in
+    let s = l .before .before in
+    let t = s .before .before .before .before .before in
+    walking-passes′ _ _ _ _ _ _ _ _ (s .before .before .windowed .ensures) (s .before .windowed2 .ensures) (s .smaller .ensures) _ _ (l .loop .inv)
+    (omega arith)
+    (t .good .0 .1)
+    (t .good .1 .1 .0 .1)
+    _ _
+    (c .column .ensures)
+
+loop-less : tie.Need-loop-less Inv-loop μ-loop
+loop-less c = omega arith
+
+loop-again : tie.Need-loop-again Inv-loop μ-loop
+loop-again c =
+    let l = c .before .before .before .before .before in
+    walking-more _ _ _ _ _ _ _ _ _ (l .loop .inv) (omega arith) _ _ _ (c .before .before .twice .ensures) (c .before .column .ensures) (c .column2 .ensures)
+
+returns : tie.Need-returns Inv-loop μ-loop
+returns c =
+    let l = c .before .before in
+    let s = l .before .before in
+    walking-end _ _ _ _ _ _ _ _ (s .before .before .windowed .ensures) (s .before .windowed2 .ensures) (s .smaller .ensures) _ _ (l .loop .inv) (omega arith)
+
+pub walk-spec : {M : Type 1} → statement M
+walk-spec =
+    tie.close
+    (tie.spec
+    Inv-loop
+    μ-loop
+    windowed-requires
+    windowed-requires-2
+    smaller-requires
+    identity-requires
+    loop-holds
+    sub-j
+    twice-requires
+    column-requires
+    column-requires-2
+    loop-less
+    loop-again
+    returns)

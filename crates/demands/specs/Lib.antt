@@ -1,0 +1,9 @@
+pub mod Accepted
+pub mod Edits
+pub mod Ready
+pub mod Fresh
+pub mod Agree
+pub mod Refusals
+pub mod Rows
+pub mod One
+pub mod OneGroup

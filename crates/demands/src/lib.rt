@@ -1,0 +1,1 @@
+// What is claimed: the theorems of the demands. No function.

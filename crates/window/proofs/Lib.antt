@@ -1,0 +1,5 @@
+pub mod Flat
+pub mod ReadBack
+mod Stepping
+mod Tables
+mod Lookups

@@ -1,0 +1,27 @@
+-- The window that was stepped, put into its part.
+use borrow.Author.Needs.{needs}
+use Rattle.window.proofs.Stepping.{odd-made}
+use Rattle.window.proofs.make_odd64.Statement.{statement}
+use Rattle.window.proofs.make_odd64.Tie as tie
+
+twice-requires : tie.Need-twice-requires
+twice-requires c κs = search needs
+
+stepped64-requires : tie.Need-stepped64-requires
+stepped64-requires c κs = search needs
+
+copy-window64-requires : tie.Need-copy-window64-requires
+copy-window64-requires c κs = search needs
+
+same-length : tie.Need-same-length
+same-length c = search needs
+
+returns : tie.Need-returns
+returns c =
+    let s = c .before .before .before .before in
+    odd-made 64 _ _ _ (s .stepped64 .ensures .1) (c .before .before .copy-window64 .ensures) (s .before .before .twice .ensures) (s .stepped64 .ensures .0)
+
+pub make-odd64-spec : {M : Type 1} → statement M
+make-odd64-spec =
+    tie.close
+    (tie.spec twice-requires stepped64-requires copy-window64-requires same-length returns)

@@ -1,0 +1,26 @@
+-- The window that was stepped, put into its part.
+use borrow.Author.Needs.{needs}
+use Rattle.window.proofs.Stepping.{odd-made}
+use Rattle.window.proofs.make_odd8.Statement.{statement}
+use Rattle.window.proofs.make_odd8.Tie as tie
+
+twice-requires : tie.Need-twice-requires
+twice-requires c κs = search needs
+
+stepped8-requires : tie.Need-stepped8-requires
+stepped8-requires c κs = search needs
+
+copy-window8-requires : tie.Need-copy-window8-requires
+copy-window8-requires c κs = search needs
+
+same-length : tie.Need-same-length
+same-length c = search needs
+
+returns : tie.Need-returns
+returns c =
+    let s = c .before .before .before .before in
+    odd-made 8 _ _ _ (s .stepped8 .ensures .1) (c .before .before .copy-window8 .ensures) (s .before .before .twice .ensures) (s .stepped8 .ensures .0)
+
+pub make-odd8-spec : {M : Type 1} → statement M
+make-odd8-spec =
+    tie.close (tie.spec twice-requires stepped8-requires copy-window8-requires same-length returns)
