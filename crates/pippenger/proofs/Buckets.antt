@@ -168,7 +168,7 @@ module _ {ds : List ℤ} {ps : List ℕ} {m j : ℕ} (n : ℕ) (l : List ℕ) {l
     small = λ i p. rw (e₁, cleared-length 0 (4 * n) l) (omega (arith, h .small i p));
   }
 
-  pub column-is : {l₂ : List ℕ} {x : Element} → 0 < n → l₂ ≡ putRows ds ps j m l₁ → x ≡ bucketSum elements (elementAt l₂) (n - 1) → x ≡ columnOf ds ps m n j
+  pub column-is : {l₂ : List ℕ} {x : Element} → 1 < n → l₂ ≡ putRows ds ps j m l₁ → x ≡ bucketSum elements (elementAt l₂) (n - 1) → x ≡ columnOf ds ps m n j
   unfolding columnOf
   column-is {l₂} some e₂ e =
       e ∙ bucketSum-ext elements (elementAt l₂) (filled elements (λ i. digitAt ds i j) (elementAt ps) m) (n - 1)

@@ -10,11 +10,11 @@ use lib.Dec.{ltb}
 use borrow.Author.Tests.{lt-ltb, le-ltb, ltb-false}
 use Rattle.rules.specs.Values.{pointAt, scalarAt}
 use Rattle.rules.specs.Group.{L}
-use Rattle.rules.specs.Numbers.{most, scalarBound, first}
+use Rattle.rules.specs.Numbers.{scalarBound, first}
 use Rattle.rules.specs.Lists.{scalarCount, pointCount, pairs, listsNotWhole, listsTooMany, shorter, anyBig, anyFlag, anyPoint, badLists, absentBelow}
 use Rattle.rules.specs.Engines.{bucketWidth, pickedBy, bucketLimbs, pippengerRefusal}
 use Rattle.laws.specs.Conditions.{or-left, or-right, or-none, or-split, first-none}
-use Rattle.lent.proofs.Passed.{few, small, there-under}
+use Rattle.lent.proofs.Passed.{lists-few, small, there-under}
 
 -- the widths that are picked
 pub picked : {w : ℕ} (c : ℕ) → w ≡ bucketWidth c → (6 ≤ w) × (w ≤ 8)
@@ -36,8 +36,7 @@ module _ (ss ps : List ℕ) where
   pairs-points = min-le-right (scalarCount ss) (pointCount ps)
 
   pub pairs-few : listsTooMany ss ps ≡ false → pairs ss ps ≤ 1024
-  unfolding listsTooMany
-  pairs-few e = omega (arith, few most 32 (length ss) (or-split _ _ e .0), pairs-scalars)
+  pairs-few e = omega (arith, lists-few ss ps e .0, pairs-scalars)
 
 module _ (ss ps : List ℕ) (d b : ℕ) where
   -- 5: the digits, the buckets
@@ -60,20 +59,6 @@ module _ (ss ps : List ℕ) (d b : ℕ) where
     pub long-enough : {m : ℕ} → m ≡ pairs ss ps → 64 * m ≤ d → 4 * n ≤ b → short ≡ false
     unfolding shorter
     long-enough e h g = or-none _ _ (le-ltb d _ (rw (sym e) h)) (le-ltb b _ (rw (sym limbs-are) g))
-
--- 7: the flags, the points
-module _ (ps fs : List ℕ) where
-  pub bad-flag : anyFlag fs ≡ true → badLists ps fs ≡ true
-  unfolding badLists
-  bad-flag e = or-left _ _ e
-
-  pub bad-point : anyPoint ps fs ≡ true → badLists ps fs ≡ true
-  unfolding badLists
-  bad-point e = or-right (anyFlag fs) _ e
-
-  pub good-lists : anyFlag fs ≡ false → anyPoint ps fs ≡ false → badLists ps fs ≡ false
-  unfolding badLists
-  good-lists e g = or-none _ _ e g
 
 module _ (ss ps fs : List ℕ) (d b : ℕ) where
   -- the number by the conditions

@@ -36,7 +36,7 @@ pub record Wide (w : ℕ) : Type 0 where
   pub some : 1 < usedPlaces w
   pub inside : usedPlaces w ≤ 64
   pub halved : 128 / 2 ^ (8 - w) ≡ 2 ^ (w - 1)
-  pub bucket : 0 < 2 ^ (w - 1)
+  pub bucket : 1 < 2 ^ (w - 1)
   pub buckets : 2 ^ (w - 1) ≤ 128
 
 pub wide : (w : ℕ) → 6 ≤ w → w ≤ 8 → Wide w
@@ -49,7 +49,7 @@ same-long b l l₀ e = sym (cleared-length 0 b l) ∙ ap length e ∙ cleared-le
 
 -- what a column asks
 pub column-asked : {ds : List ℤ} {ps : List ℕ} {m w b n j : ℕ} → Walkable ds ps m w b → n ≡ 2 ^ (w - 1) → j < usedPlaces w → (l : List ℕ) → length l ≡ b
-    → Placed ds ps m j (4 * n) × ((0 < n) × (4 * n ≤ length l))
+    → Placed ds ps m j (4 * n) × ((1 < n) × (4 * n ≤ length l))
 unfolding bucketLimbs
 column-asked {w = w} {j = j} h e p l q = let v = wide w (h .low) (h .high) in rw (e, q) (h .placed j (omega (arith, v .inside)), (v .bucket, h .room))
 

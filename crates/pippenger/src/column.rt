@@ -75,7 +75,7 @@ fn put_all(digits: &[i8], points: &[u64], m: usize, j: usize, buckets: &mut [u64
 
 // The buckets, each as often as its number says: the sum of the running sums from the last bucket down.
 fn sum_buckets(buckets: &[u64], n: usize) -> Walk
-    requires { ⌜ (0 < n) × (4 * n ≤ length (now buckets)) ⌝ }
+    requires { ⌜ (1 < n) × (4 * n ≤ length (now buckets)) ⌝ }
     ensures { λ r. ⌜ (r .element ≡ bucketSum elements (elementAt (now (buckets .entry))) (n - 1)) × ((r .additions ≡ 2 * (n - 1)) × (r .doublings ≡ 0)) ⌝ }
 {
     let mut running = load(buckets, n - 1);
@@ -104,7 +104,7 @@ pub(crate) fn column(
     n: usize,
     buckets: &mut [u64],
 ) -> Walk
-    requires { ⌜ Placed (now digits) (now points) m j (4 * n) × ((0 < n) × (4 * n ≤ length (now buckets))) ⌝ }
+    requires { ⌜ Placed (now digits) (now points) m j (4 * n) × ((1 < n) × (4 * n ≤ length (now buckets))) ⌝ }
     ensures { λ r. ⌜ ColumnMade (now (digits .entry)) (now (points .entry)) m j n (now (buckets .entry)) (now (buckets .exit)) r ⌝ }
 {
     lent::room::clear_limbs(&mut *buckets, 4 * n);

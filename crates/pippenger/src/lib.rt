@@ -62,10 +62,7 @@ fn refusal(scalars: &[u8], points: &[u64], flags: &[u8], digits: usize, buckets:
     if lent::any_big(scalars) {
         return 6;
     }
-    if lent::any_flag(flags) {
-        return 7;
-    }
-    if lent::any_point(points, flags) {
+    if lent::bad_lists(points, flags) {
         return 7;
     }
     if lent::absent_below(points, flags, m) {

@@ -3,7 +3,7 @@ use mathlib.Core.Path.{_≡_, refl, sym, ap, _∙_}
 use mathlib.Core.Bool.{Bool, false}
 use native.Mathlib.Omega.{arith}
 use Rattle.rules.specs.Lists.{pairs, listsNotWhole, listsTooMany, anyBig, badLists, absentBelow}
-use Rattle.pippenger.proofs.Refusing.{picked, pairs-few, short, short-digits, short-buckets, long-enough, bad-flag, bad-point, good-lists, answers}
+use Rattle.pippenger.proofs.Refusing.{picked, pairs-few, short, short-digits, short-buckets, long-enough, answers}
 use Rattle.pippenger.proofs.Walking.{wide}
 use borrow.Author.Needs.{needs}
 use Rattle.pippenger.proofs.refusal.Statement.{statement}
@@ -26,11 +26,11 @@ long c = let s = c .before in long-enough _ _ _ _ (s .before .width .ensures) (s
 small : (c : tie.Else5) → anyBig (c .before .before .before .before .before .before .before .before .before .before .before .before .before .before .before .args .scalars .now) ≡ false
 small c = told (c .before .any-big .ensures) (c .if5 .left)
 
-good : (c : tie.Else7) → badLists (c .before .before .before .before .before .before .before .before .before .before .before .before .before .before .before .before .before .before .before .args .points .now) (c .before .before .before .before .before .before .before .before .before .before .before .before .before .before .before .before .before .before .before .args .flags .now) ≡ false
-good c = good-lists _ _ (told (c .before .before .before .any-flag .ensures) (c .before .before .if6 .left)) (told (c .before .any-point .ensures) (c .if7 .left))
+good : (c : tie.Else6) → badLists (c .before .before .before .before .before .before .before .before .before .before .before .before .before .before .before .before .before .args .points .now) (c .before .before .before .before .before .before .before .before .before .before .before .before .before .before .before .before .before .args .flags .now) ≡ false
+good c = told (c .before .bad-lists .ensures) (c .if6 .left)
 
-absent : (c : tie.After-absent-below) → let a = c .before .before .before .before .before .before .before .before .before .before .before .before .before .before .before .before .before .before .before .before .args in c .absent-below .result ≡ absentBelow (a .points .now) (a .flags .now) (pairs (a .scalars .now) (a .points .now))
-absent c = c .absent-below .ensures ∙ ap (absentBelow _ _) (c .before .before .before .before .before .before .before .before .before .before .before .before .pairs .ensures)
+absent : (c : tie.After-absent-below) → let a = c .before .before .before .before .before .before .before .before .before .before .before .before .before .before .before .before .before .before .args in c .absent-below .result ≡ absentBelow (a .points .now) (a .flags .now) (pairs (a .scalars .now) (a .points .now))
+absent c = c .absent-below .ensures ∙ ap (absentBelow _ _) (c .before .before .before .before .before .before .before .before .before .before .pairs .ensures)
 
 lists-not-whole-requires : tie.Need-lists-not-whole-requires
 lists-not-whole-requires c κs = search needs
@@ -74,26 +74,20 @@ any-big-requires c κs = search needs
 returns-5 : tie.Need-returns-5
 returns-5 c = answers _ _ _ _ _ (whole (c .before .before .before .before .before .before .before .before .before .before)) (few (c .before .before .before .before .before .before .before .before)) (long (c .before .before)) (told (c .before .any-big .ensures) (c .if5 .taken)) refl refl
 
-any-flag-requires : tie.Need-any-flag-requires
-any-flag-requires c κs = search needs
+bad-lists-requires : tie.Need-bad-lists-requires
+bad-lists-requires c κs = search needs
 
 returns-6 : tie.Need-returns-6
-returns-6 c = answers _ _ _ _ _ (whole (c .before .before .before .before .before .before .before .before .before .before .before .before)) (few (c .before .before .before .before .before .before .before .before .before .before)) (long (c .before .before .before .before)) (small (c .before .before)) (bad-flag _ _ (told (c .before .any-flag .ensures) (c .if6 .taken))) refl
-
-any-point-requires : tie.Need-any-point-requires
-any-point-requires c κs = search needs
-
-returns-7 : tie.Need-returns-7
-returns-7 c = answers _ _ _ _ _ (whole (c .before .before .before .before .before .before .before .before .before .before .before .before .before .before)) (few (c .before .before .before .before .before .before .before .before .before .before .before .before)) (long (c .before .before .before .before .before .before)) (small (c .before .before .before .before)) (bad-point _ _ (told (c .before .any-point .ensures) (c .if7 .taken))) refl
+returns-6 c = answers _ _ _ _ _ (whole (c .before .before .before .before .before .before .before .before .before .before .before .before)) (few (c .before .before .before .before .before .before .before .before .before .before)) (long (c .before .before .before .before)) (small (c .before .before)) (told (c .before .bad-lists .ensures) (c .if6 .taken)) refl
 
 absent-below-requires : tie.Need-absent-below-requires
 absent-below-requires c κs = search needs
 
-returns-8 : tie.Need-returns-8
-returns-8 c = answers _ _ _ _ _ (whole (c .before .before .before .before .before .before .before .before .before .before .before .before .before .before .before .before)) (few (c .before .before .before .before .before .before .before .before .before .before .before .before .before .before)) (long (c .before .before .before .before .before .before .before .before)) (small (c .before .before .before .before .before .before)) (good (c .before .before)) (told (absent (c .before)) (c .if8 .taken))
+returns-7 : tie.Need-returns-7
+returns-7 c = answers _ _ _ _ _ (whole (c .before .before .before .before .before .before .before .before .before .before .before .before .before .before)) (few (c .before .before .before .before .before .before .before .before .before .before .before .before)) (long (c .before .before .before .before .before .before)) (small (c .before .before .before .before)) (good (c .before .before)) (told (absent (c .before)) (c .if7 .taken))
 
-returns-9 : tie.Need-returns-9
-returns-9 c = answers _ _ _ _ _ (whole (c .before .before .before .before .before .before .before .before .before .before .before .before .before .before .before .before)) (few (c .before .before .before .before .before .before .before .before .before .before .before .before .before .before)) (long (c .before .before .before .before .before .before .before .before)) (small (c .before .before .before .before .before .before)) (good (c .before .before)) (told (absent (c .before)) (c .if8 .left))
+returns-8 : tie.Need-returns-8
+returns-8 c = answers _ _ _ _ _ (whole (c .before .before .before .before .before .before .before .before .before .before .before .before .before .before)) (few (c .before .before .before .before .before .before .before .before .before .before .before .before)) (long (c .before .before .before .before .before .before)) (small (c .before .before .before .before)) (good (c .before .before)) (told (absent (c .before)) (c .if7 .left))
 
 pub refusal-spec : {M : Type 1} → statement M
 refusal-spec =
@@ -113,10 +107,8 @@ refusal-spec =
     returns-4
     any-big-requires
     returns-5
-    any-flag-requires
+    bad-lists-requires
     returns-6
-    any-point-requires
-    returns-7
     absent-below-requires
-    returns-8
-    returns-9)
+    returns-7
+    returns-8)
