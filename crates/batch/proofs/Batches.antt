@@ -141,7 +141,6 @@ prepare-is ss ps fs ds ws c d w r range z ef er =
         → _≡_ {A = Memory} (record { digits = d; windows = w }) (fresh ss ps (scalarCount ss))
     memory-is p q = unfold fresh in (cc)
 
-
 -- a refused call on memory
 pub refused-is : {n : ℕ} (h : n ≡ 0 → ⊥) (m x : Memory) (a b k : ℕ) (r : Counted) → n ≡ k → r ≡ counted n 0 0
     → _≡_ {A = AfterEdit} (record { result = r; memory = m }) (record { result = counted k a b; memory = given k m x })

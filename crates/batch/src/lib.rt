@@ -8,6 +8,7 @@ use rules::Counted;
 use rules::Element;
 use rules::OptionalPoint;
 use rules::Sum;
+
 pub(crate) mod asks;
 
 // Every slot from its scalar and point.
@@ -45,12 +46,7 @@ fn set_point(
     let e = a + 256;
     let b = 32 * slot;
     let f = b + 32;
-    answer::counted(columns::fill_slot(
-        scalar,
-        p,
-        &mut digits[a..e],
-        &mut windows[b..f],
-    ))
+    answer::counted(columns::fill_slot(scalar, p, &mut digits[a..e], &mut windows[b..f]))
 }
 
 // One slot set to a scalar and an optional point.

@@ -8,3 +8,5 @@ pub mod Refusals
 pub mod Rows
 pub mod One
 pub mod OneGroup
+pub mod OneRows
+pub mod OneEngines

@@ -23,8 +23,10 @@ lists-too-many-requires c κs = search needs
 returns-2 : tie.Need-returns-2
 unfolding prepareRefusal first
 returns-2 c =
-    rw (sym (c .before .before .before .lists-not-whole .ensures) ∙ c .before .before .if1 .left,
-    sym (c .before .lists-too-many .ensures) ∙ c .if2 .taken)
+    rw (
+      sym (c .before .before .before .lists-not-whole .ensures) ∙ c .before .before .if1 .left,
+      sym (c .before .lists-too-many .ensures) ∙ c .if2 .taken,
+    )
 
 mul-if3 : tie.Need-mul-if3
 mul-if3 c = omega (arith, lists-few _ _ (sym (c .before .lists-too-many .ensures) ∙ c .if2 .left) .0)
@@ -32,9 +34,11 @@ mul-if3 c = omega (arith, lists-few _ _ (sym (c .before .lists-too-many .ensures
 returns-3 : tie.Need-returns-3
 unfolding prepareRefusal first
 returns-3 c =
-    rw (sym (c .before .before .before .before .lists-not-whole .ensures) ∙ c .before .before .before .if1 .left,
-    sym (c .before .before .lists-too-many .ensures) ∙ c .before .if2 .left,
-    other (c .if3 .taken))
+    rw (
+      sym (c .before .before .before .before .lists-not-whole .ensures) ∙ c .before .before .before .if1 .left,
+      sym (c .before .before .lists-too-many .ensures) ∙ c .before .if2 .left,
+      other (c .if3 .taken),
+    )
 
 mul-if4 : tie.Need-mul-if4
 mul-if4 c = search needs
@@ -42,10 +46,12 @@ mul-if4 c = search needs
 returns-4 : tie.Need-returns-4
 unfolding prepareRefusal first
 returns-4 c =
-    rw (sym (c .before .before .before .before .before .lists-not-whole .ensures) ∙ c .before .before .before .before .if1 .left,
-    sym (c .before .before .before .lists-too-many .ensures) ∙ c .before .before .if2 .left,
-    same (c .before .if3 .left),
-    other (c .if4 .taken))
+    rw (
+      sym (c .before .before .before .before .before .lists-not-whole .ensures) ∙ c .before .before .before .before .if1 .left,
+      sym (c .before .before .before .lists-too-many .ensures) ∙ c .before .before .if2 .left,
+      same (c .before .if3 .left),
+      other (c .if4 .taken),
+    )
 
 any-big-requires : tie.Need-any-big-requires
 any-big-requires c κs = search needs
@@ -53,11 +59,13 @@ any-big-requires c κs = search needs
 returns-5 : tie.Need-returns-5
 unfolding prepareRefusal first
 returns-5 c =
-    rw (sym (c .before .before .before .before .before .before .before .lists-not-whole .ensures) ∙ c .before .before .before .before .before .before .if1 .left,
-    sym (c .before .before .before .before .before .lists-too-many .ensures) ∙ c .before .before .before .before .if2 .left,
-    same (c .before .before .before .if3 .left),
-    same (c .before .before .if4 .left),
-    sym (c .before .any-big .ensures) ∙ c .if5 .taken)
+    rw (
+      sym (c .before .before .before .before .before .before .before .lists-not-whole .ensures) ∙ c .before .before .before .before .before .before .if1 .left,
+      sym (c .before .before .before .before .before .lists-too-many .ensures) ∙ c .before .before .before .before .if2 .left,
+      same (c .before .before .before .if3 .left),
+      same (c .before .before .if4 .left),
+      sym (c .before .any-big .ensures) ∙ c .if5 .taken,
+    )
 
 bad-lists-requires : tie.Need-bad-lists-requires
 bad-lists-requires c κs = search needs
@@ -65,12 +73,14 @@ bad-lists-requires c κs = search needs
 returns-6 : tie.Need-returns-6
 unfolding prepareRefusal first
 returns-6 c =
-    rw (sym (c .before .before .before .before .before .before .before .before .before .lists-not-whole .ensures) ∙ c .before .before .before .before .before .before .before .before .if1 .left,
-    sym (c .before .before .before .before .before .before .before .lists-too-many .ensures) ∙ c .before .before .before .before .before .before .if2 .left,
-    same (c .before .before .before .before .before .if3 .left),
-    same (c .before .before .before .before .if4 .left),
-    sym (c .before .before .before .any-big .ensures) ∙ c .before .before .if5 .left,
-    sym (c .before .bad-lists .ensures) ∙ c .if6 .taken)
+    rw (
+      sym (c .before .before .before .before .before .before .before .before .before .lists-not-whole .ensures) ∙ c .before .before .before .before .before .before .before .before .if1 .left,
+      sym (c .before .before .before .before .before .before .before .lists-too-many .ensures) ∙ c .before .before .before .before .before .before .if2 .left,
+      same (c .before .before .before .before .before .if3 .left),
+      same (c .before .before .before .before .if4 .left),
+      sym (c .before .before .before .any-big .ensures) ∙ c .before .before .if5 .left,
+      sym (c .before .bad-lists .ensures) ∙ c .if6 .taken,
+    )
 
 absent-below-requires : tie.Need-absent-below-requires
 absent-below-requires c κs = search needs
@@ -78,37 +88,43 @@ absent-below-requires c κs = search needs
 returns-7 : tie.Need-returns-7
 unfolding prepareRefusal first
 returns-7 c =
-    rw (sym (c .before .before .before .before .before .before .before .before .before .before .before .lists-not-whole .ensures) ∙ c .before .before .before .before .before .before .before .before .before .before .if1 .left,
-    sym (c .before .before .before .before .before .before .before .before .before .lists-too-many .ensures) ∙ c .before .before .before .before .before .before .before .before .if2 .left,
-    same (c .before .before .before .before .before .before .before .if3 .left),
-    same (c .before .before .before .before .before .before .if4 .left),
-    sym (c .before .before .before .before .before .any-big .ensures) ∙ c .before .before .before .before .if5 .left,
-    sym (c .before .before .before .bad-lists .ensures) ∙ c .before .before .if6 .left,
-    sym (c .before .absent-below .ensures) ∙ c .if7 .taken)
+    rw (
+      sym (c .before .before .before .before .before .before .before .before .before .before .before .lists-not-whole .ensures) ∙ c .before .before .before .before .before .before .before .before .before .before .if1 .left,
+      sym (c .before .before .before .before .before .before .before .before .before .lists-too-many .ensures) ∙ c .before .before .before .before .before .before .before .before .if2 .left,
+      same (c .before .before .before .before .before .before .before .if3 .left),
+      same (c .before .before .before .before .before .before .if4 .left),
+      sym (c .before .before .before .before .before .any-big .ensures) ∙ c .before .before .before .before .if5 .left,
+      sym (c .before .before .before .bad-lists .ensures) ∙ c .before .before .if6 .left,
+      sym (c .before .absent-below .ensures) ∙ c .if7 .taken,
+    )
 
 returns-8 : tie.Need-returns-8
 unfolding prepareRefusal first
 returns-8 c =
-    rw (sym (c .before .before .before .before .before .before .before .before .before .before .before .before .lists-not-whole .ensures) ∙ c .before .before .before .before .before .before .before .before .before .before .before .if1 .left,
-    sym (c .before .before .before .before .before .before .before .before .before .before .lists-too-many .ensures) ∙ c .before .before .before .before .before .before .before .before .before .if2 .left,
-    same (c .before .before .before .before .before .before .before .before .if3 .left),
-    same (c .before .before .before .before .before .before .before .if4 .left),
-    sym (c .before .before .before .before .before .before .any-big .ensures) ∙ c .before .before .before .before .before .if5 .left,
-    sym (c .before .before .before .before .bad-lists .ensures) ∙ c .before .before .before .if6 .left,
-    sym (c .before .before .absent-below .ensures) ∙ c .before .if7 .left,
-    other (c .if8 .taken))
+    rw (
+      sym (c .before .before .before .before .before .before .before .before .before .before .before .before .lists-not-whole .ensures) ∙ c .before .before .before .before .before .before .before .before .before .before .before .if1 .left,
+      sym (c .before .before .before .before .before .before .before .before .before .before .lists-too-many .ensures) ∙ c .before .before .before .before .before .before .before .before .before .if2 .left,
+      same (c .before .before .before .before .before .before .before .before .if3 .left),
+      same (c .before .before .before .before .before .before .before .if4 .left),
+      sym (c .before .before .before .before .before .before .any-big .ensures) ∙ c .before .before .before .before .before .if5 .left,
+      sym (c .before .before .before .before .bad-lists .ensures) ∙ c .before .before .before .if6 .left,
+      sym (c .before .before .absent-below .ensures) ∙ c .before .if7 .left,
+      other (c .if8 .taken),
+    )
 
 returns-9 : tie.Need-returns-9
 unfolding prepareRefusal first
 returns-9 c =
-    rw (sym (c .before .before .before .before .before .before .before .before .before .before .before .before .lists-not-whole .ensures) ∙ c .before .before .before .before .before .before .before .before .before .before .before .if1 .left,
-    sym (c .before .before .before .before .before .before .before .before .before .before .lists-too-many .ensures) ∙ c .before .before .before .before .before .before .before .before .before .if2 .left,
-    same (c .before .before .before .before .before .before .before .before .if3 .left),
-    same (c .before .before .before .before .before .before .before .if4 .left),
-    sym (c .before .before .before .before .before .before .any-big .ensures) ∙ c .before .before .before .before .before .if5 .left,
-    sym (c .before .before .before .before .bad-lists .ensures) ∙ c .before .before .before .if6 .left,
-    sym (c .before .before .absent-below .ensures) ∙ c .before .if7 .left,
-    same (c .if8 .left))
+    rw (
+      sym (c .before .before .before .before .before .before .before .before .before .before .before .before .lists-not-whole .ensures) ∙ c .before .before .before .before .before .before .before .before .before .before .before .if1 .left,
+      sym (c .before .before .before .before .before .before .before .before .before .before .lists-too-many .ensures) ∙ c .before .before .before .before .before .before .before .before .before .if2 .left,
+      same (c .before .before .before .before .before .before .before .before .if3 .left),
+      same (c .before .before .before .before .before .before .before .if4 .left),
+      sym (c .before .before .before .before .before .before .any-big .ensures) ∙ c .before .before .before .before .before .if5 .left,
+      sym (c .before .before .before .before .bad-lists .ensures) ∙ c .before .before .before .if6 .left,
+      sym (c .before .before .absent-below .ensures) ∙ c .before .if7 .left,
+      same (c .if8 .left),
+    )
 
 pub prepare-refusal-spec : {M : Type 1} → statement M
 prepare-refusal-spec =

@@ -1,0 +1,33 @@
+-- One result, call by call: engines and batches.
+use mathlib.Core.Path.{sym, _∙_}
+use denote.Ref.{now}
+use Rattle.rules.specs.Engines.{After}
+use Rattle.rules.specs.Batch.{AfterEdit}
+use Rattle.demands.specs.One.{One, Whole}
+use Rattle.pippenger.proofs.optional_multiscalar_mul.Kinds as pippenger-optional-multiscalar-mul-K
+use Rattle.pippenger.proofs.optional_multiscalar_mul.Reads as pippenger-optional-multiscalar-mul
+use Rattle.batch.proofs.prepare.Kinds as batch-prepare-K
+use Rattle.batch.proofs.prepare.Reads as batch-prepare
+use Rattle.batch.proofs.set.Kinds as batch-set-K
+use Rattle.batch.proofs.set.Reads as batch-set
+use Rattle.batch.proofs.clear.Kinds as batch-clear-K
+use Rattle.batch.proofs.clear.Reads as batch-clear
+use Rattle.batch.proofs.total.Kinds as batch-total-K
+use Rattle.batch.proofs.total.Reads as batch-total
+
+-- pippenger
+pub one-pippenger-optional-multiscalar-mul : Whole 5 pippenger-optional-multiscalar-mul-K.ps pippenger-optional-multiscalar-mul-K.r pippenger-optional-multiscalar-mul.Post {B = After} (λ κs r s. record { result = r; digits = now (s .1 .1 .1 .0); limbs = now (s .1 .1 .1 .1 .0) })
+one-pippenger-optional-multiscalar-mul κs a r r′ s s′ p q = p ∙ sym q
+
+-- batch
+pub one-batch-prepare : Whole 5 batch-prepare-K.ps batch-prepare-K.r batch-prepare.Post {B = AfterEdit} (λ κs r s. record { result = r; memory = record { digits = now (s .1 .1 .1 .0); windows = now (s .1 .1 .1 .1 .0) } })
+one-batch-prepare κs a r r′ s s′ p q = p ∙ sym q
+
+pub one-batch-set : Whole 3 batch-set-K.ps batch-set-K.r batch-set.Post {B = AfterEdit} (λ κs r s. record { result = r; memory = record { digits = now (s .0); windows = now (s .1 .0) } })
+one-batch-set κs a r r′ s s′ p q = p ∙ sym q
+
+pub one-batch-clear : Whole 2 batch-clear-K.ps batch-clear-K.r batch-clear.Post {B = AfterEdit} (λ κs r s. record { result = r; memory = record { digits = now (s .0); windows = now (s .1 .0) } })
+one-batch-clear κs a r r′ s s′ p q = p ∙ sym q
+
+pub one-batch-total : One 2 batch-total-K.ps batch-total-K.r batch-total.Post
+one-batch-total κs a r r′ s s′ p q = p ∙ sym q
