@@ -18,7 +18,8 @@ use Rattle.digit.proofs.Machine.{back8, is-zero, not-zero}
 use Rattle.columns.specs.declared.Running.{Running}
 use Rattle.columns.specs.Running.{running, onward}
 
-added-is : (d : ℤ) (x y : Element) (q : Running) → (d ≡ pos 0 → ⊥) → ltZ d (pos 0) ≡ false → y ≡ added (q .element) x → running y (q .additions + 1) ≡ onward d x q
+added-is : (d : ℤ) (x y : Element) (q : Running) → (d ≡ pos 0 → ⊥) → ltZ d (pos 0) ≡ false → y ≡ added (q .element) x
+    → running y (q .additions + 1) ≡ onward d x q
 unfolding onward moved nonzero
 added-is (pos zero) x y q n h e = absurd (n refl)
 added-is (pos (suc k)) x y q n h e = ap (λ (z : Element). running z (q .additions + 1)) e
@@ -46,8 +47,10 @@ module _ (d : ℤ) (f : SFits w8 d) (ws : List ℕ) (q : Running) where
     named : x ≡ elementAt ws (oddEntry d)
     named = read ∙ ap (elementAt ws) (entry ∙ ap oddEntry (back8 d f))
 
-    pub onward-below : ltZ (toZ w8 (ofZ w8 d)) (pos 0) ≡ true → y ≡ subtracted (q .element) x → running y (q .additions + 1) ≡ onward d (elementAt ws (oddEntry d)) q
+    pub onward-below : ltZ (toZ w8 (ofZ w8 d)) (pos 0) ≡ true → y ≡ subtracted (q .element) x
+        → running y (q .additions + 1) ≡ onward d (elementAt ws (oddEntry d)) q
     onward-below h e = taken-is d _ y q (rw (back8 d f) at h) (e ∙ ap (subtracted (q .element)) named)
 
-    pub onward-above : (ofZ w8 d ≡ 0 → ⊥) → ltZ (toZ w8 (ofZ w8 d)) (pos 0) ≡ false → y ≡ added (q .element) x → running y (q .additions + 1) ≡ onward d (elementAt ws (oddEntry d)) q
+    pub onward-above : (ofZ w8 d ≡ 0 → ⊥) → ltZ (toZ w8 (ofZ w8 d)) (pos 0) ≡ false → y ≡ added (q .element) x
+        → running y (q .additions + 1) ≡ onward d (elementAt ws (oddEntry d)) q
     onward-above n h e = added-is d _ y q (not-zero d n) (rw (back8 d f) at h) (e ∙ ap (added (q .element)) named)

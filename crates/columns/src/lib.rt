@@ -5,8 +5,9 @@ ghost use lib.ListN.{length};
 ghost use Rattle.rules.specs.Values.{elementAt};
 ghost use Rattle.rules.specs.Rows.{digit};
 ghost use Rattle.rules.specs.Loops.{nonzero, oddEntry};
-ghost use Rattle.rules.specs.Helpers.{walked};
+ghost use Rattle.rules.specs.Helpers.{walked, Filled, filledSlot, filled};
 ghost use Rattle.columns.specs.Running.{onward, passed, Passable};
+use rules::Counts;
 use rules::Element;
 use rules::Walk;
 
@@ -106,5 +107,40 @@ pub fn walk(
         element,
         additions: r.additions,
         doublings: n as u64,
+    }
+}
+
+// The row (width 5) and the window of one slot, each into its part of lent memory.
+pub fn fill_slot(scalar: &[u8], point: Element, row: &mut [i8], window: &mut [u64]) -> Counts
+    ensures { λ r. ⌜ _≡_ {A = Filled} (record { counts = r; digits = now (row .exit); windows = now (window .exit) }) (filledSlot (now (scalar .entry)) point (now (row .entry)) (now (window .entry))) ⌝ }
+{
+    let digits = scalar::naf_row(scalar, 5);
+    lent::room::copy_digits(&mut *row, &digits);
+    window::make_odd8(point, &mut *window)
+}
+
+// The slots of all pairs, one after the other, as far as the room goes.
+pub fn fill(scalars: &[u8], points: &[u64], digits: &mut [i8], windows: &mut [u64]) -> Counts
+    ensures { λ r. ⌜ _≡_ {A = Filled} (record { counts = r; digits = now (digits .exit); windows = now (windows .exit) }) (filled (now (scalars .entry)) (now (points .entry)) (now (digits .entry)) (now (windows .entry))) ⌝ }
+{
+    let pairs = lent::smaller(scalars.len() / 32, points.len() / 4);
+    let m = lent::smaller(pairs, windowed(digits.len(), windows.len(), 32));
+    let mut additions: u64 = 0;
+    let mut doublings: u64 = 0;
+    let mut i: usize = 0;
+    while i < m {
+        let s = 32 * i;
+        let t = s + 32;
+        let a = 256 * i;
+        let e = a + 256;
+        let point = residue::element_at(points, i);
+        let made = fill_slot(&scalars[s..t], point, &mut digits[a..e], &mut windows[s..t]);
+        additions += made.additions;
+        doublings += made.doublings;
+        i += 1;
+    }
+    Counts {
+        additions,
+        doublings,
     }
 }

@@ -1,6 +1,4 @@
 -- With j places still to come, the steps that are left lead from the running sum to the walked one.
-use mathlib.Core.Path.{_≡_, ap, _∙_}
-use Prim.Native.Nat.{ℕ, _+_, _*_, _^_, _≤_, _<_, min}
 use native.Mathlib.Omega.{arith}
 use borrow.Author.Needs.{needs}
 use Rattle.columns.proofs.Walking.{Walking, walking-none, walking-more, walking-passes, walking-passes′, walking-end}
