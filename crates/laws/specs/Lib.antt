@@ -10,6 +10,7 @@ pub mod Windows
 pub mod Columns
 pub mod Walk
 pub mod Carried
+pub mod RadixWalk
 pub mod Buckets
 pub mod DigitsSum
 pub mod Digits

@@ -10,10 +10,15 @@ use lib.Seq.{getD-append-add}
 use lib.Pow.{pow-mono, pow-lt, shr-mod}
 use lib.IntN.{ℤ, pos, negsuc, natAbs, subℕ}
 use lib.Signed.{mag, natAbs-le}
-use Rattle.rules.specs.Numbers.{rowBound}
+use Rattle.rules.specs.Numbers.{rowBound, scalarBound}
 use Rattle.rules.specs.Rows.{digit, usedPlaces, centred, above, radixDigits, radixRow}
 use Rattle.laws.specs.DigitsSum.{getD-zeros}
 use Rattle.laws.specs.Digits.{carry, carry-low, centred-window, centred-range, above-at, above-le, after, after-next}
+
+-- a scalar that the engines take has a row
+pub scalar-has-row : (s : ℕ) → s < scalarBound → s < rowBound
+unfolding scalarBound rowBound
+scalar-has-row s h = h
 
 -- a fact of each width
 by-width : (P : ℕ → Type 0) → P 4 → P 5 → P 6 → P 7 → P 8 → (w : ℕ) → 4 ≤ w → w ≤ 8 → P w

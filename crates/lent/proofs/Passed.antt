@@ -3,6 +3,7 @@ use mathlib.Core.Path.{_≡_, refl}
 use mathlib.Core.Bool.{Bool, true, false, cond}
 use mathlib.Core.List.{List}
 use Prim.Native.Nat.{ℕ, _/_, _%_, _<_, _≤_}
+use native.Mathlib.Nat.{min-le-left, min-le-right}
 use native.Mathlib.Omega.{arith}
 use lib.ListN.{length, getD}
 use lib.Dec.{eqb}
@@ -12,7 +13,7 @@ use Rattle.rules.specs.Values.{valueOf, elementAt, pointAt, optionalAt, scalarA
 use Rattle.rules.specs.Group.{L}
 use Rattle.rules.specs.Numbers.{scalarBound}
 use Rattle.rules.specs.Windows.{over, anyOver}
-use Rattle.rules.specs.Lists.{notIn, beyondMost, scalarCount, pointCount, listsTooMany, bigAt, anyBig, flagAt, anyFlag, pointOver, anyPoint, isAbsent, absentBelow}
+use Rattle.rules.specs.Lists.{notIn, beyondMost, scalarCount, pointCount, pairs, listsTooMany, bigAt, anyBig, flagAt, anyFlag, pointOver, anyPoint, isAbsent, absentBelow}
 use Rattle.laws.specs.Conditions.{or-split, any-below}
 
 pub whole : (unit n : ℕ) → notIn unit n ≡ false → n % unit ≡ 0
@@ -53,3 +54,16 @@ pub there-under : (ps fs : List ℕ) (n i : ℕ) → absentBelow ps fs n ≡ fal
 unfolding anyPoint pointOver pointAt
 there-under ps fs n i e a h g =
     leb-false L (valueOf (elementAt ps i)) (rw (there ps fs n i e h) at (any-below (λ j. pointOver (optionalAt ps fs j)) (pointCount ps) i a g))
+
+-- the pairs are no more than the scalars, the points, and the limit
+module _ (ss ps : List ℕ) where
+  pub pairs-scalars : pairs ss ps ≤ scalarCount ss
+  unfolding pairs
+  pairs-scalars = min-le-left (scalarCount ss) (pointCount ps)
+
+  pub pairs-points : pairs ss ps ≤ pointCount ps
+  unfolding pairs
+  pairs-points = min-le-right (scalarCount ss) (pointCount ps)
+
+  pub pairs-few : listsTooMany ss ps ≡ false → pairs ss ps ≤ 1024
+  pairs-few e = omega (arith, lists-few ss ps e .0, pairs-scalars)

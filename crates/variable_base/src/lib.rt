@@ -1,0 +1,68 @@
+// Single base: a scalar times a point, radix 16.
+ghost use mathlib.Core.Path.{_≡_};
+ghost use Rattle.rules.specs.Engines.{singleRefusal, single};
+ghost use Rattle.variable_base.specs.Walked.{walkedDown};
+use rules::Sum;
+use rules::Walk;
+
+// The last digit's entry, and from the place below it down four doublings and that digit's entry.
+fn walk(row: [i8; 64], window: &[u64]) -> Walk
+    ensures { λ r. ⌜ r ≡ walkedDown row (now (window .entry)) ⌝ }
+{
+    let mut q = residue::plus(residue::identity(), window::looked_up(window, row[63]));
+    let mut additions: u64 = 1;
+    let mut doublings: u64 = 0;
+    let mut j: usize = 63;
+    while 0 < j {
+        j -= 1;
+        q = residue::plus(
+            residue::mul_by_pow_2(q, 4),
+            window::looked_up(window, row[j]),
+        );
+        additions += 1;
+        doublings += 4;
+    }
+    Walk {
+        element: q,
+        additions,
+        doublings,
+    }
+}
+
+// The number that the call answers.
+fn refusal(point: &[u64], scalar: &[u8]) -> u8
+    ensures { λ r. ⌜ r ≡ singleRefusal (now (point .entry)) (now (scalar .entry)) ⌝ }
+{
+    if point.len() != 4 {
+        return 1;
+    }
+    if scalar.len() != 32 {
+        return 1;
+    }
+    if lent::any_big(scalar) {
+        return 6;
+    }
+    if lent::any_over(point) {
+        return 7;
+    }
+    0
+}
+
+// Single base.
+pub fn mul(point: &[u64], scalar: &[u8]) -> Sum
+    ensures { λ r. ⌜ r ≡ single (now (point .entry)) (now (scalar .entry)) ⌝ }
+{
+    let n = refusal(point, scalar);
+    if n != 0 {
+        return answer::refused_sum(n);
+    }
+    let mut window = [0u64; 32];
+    let made = window::make_successive(residue::element_at(point, 0), &mut window);
+    let row = scalar::radix_row(scalar, 4);
+    let w = walk(row, &window);
+    answer::sum(
+        w.element,
+        made.additions + w.additions,
+        made.doublings + w.doublings,
+    )
+}
