@@ -6,6 +6,7 @@ pub mod Agree
 pub mod Total
 pub mod Refusals
 pub mod Rows
+pub mod Sums
 pub mod One
 pub mod OneGroup
 pub mod OneRows

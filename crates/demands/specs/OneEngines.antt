@@ -4,6 +4,10 @@ use denote.Ref.{now}
 use Rattle.rules.specs.Engines.{After}
 use Rattle.rules.specs.Batch.{AfterEdit}
 use Rattle.demands.specs.One.{One, Whole}
+use Rattle.variable_base.proofs.mul.Kinds as variable-base-mul-K
+use Rattle.variable_base.proofs.mul.Reads as variable-base-mul
+use Rattle.vartime_double_base.proofs.mul.Kinds as vartime-double-base-mul-K
+use Rattle.vartime_double_base.proofs.mul.Reads as vartime-double-base-mul
 use Rattle.pippenger.proofs.optional_multiscalar_mul.Kinds as pippenger-optional-multiscalar-mul-K
 use Rattle.pippenger.proofs.optional_multiscalar_mul.Reads as pippenger-optional-multiscalar-mul
 use Rattle.batch.proofs.prepare.Kinds as batch-prepare-K
@@ -14,6 +18,14 @@ use Rattle.batch.proofs.clear.Kinds as batch-clear-K
 use Rattle.batch.proofs.clear.Reads as batch-clear
 use Rattle.batch.proofs.total.Kinds as batch-total-K
 use Rattle.batch.proofs.total.Reads as batch-total
+
+-- variable_base
+pub one-variable-base-mul : One 2 variable-base-mul-K.ps variable-base-mul-K.r variable-base-mul.Post
+one-variable-base-mul κs a r r′ s s′ p q = p ∙ sym q
+
+-- vartime_double_base
+pub one-vartime-double-base-mul : One 3 vartime-double-base-mul-K.ps vartime-double-base-mul-K.r vartime-double-base-mul.Post
+one-vartime-double-base-mul κs a r r′ s s′ p q = p ∙ sym q
 
 -- pippenger
 pub one-pippenger-optional-multiscalar-mul : Whole 5 pippenger-optional-multiscalar-mul-K.ps pippenger-optional-multiscalar-mul-K.r pippenger-optional-multiscalar-mul.Post {B = After} (λ κs r s. record { result = r; digits = now (s .1 .1 .1 .0); limbs = now (s .1 .1 .1 .1 .0) })

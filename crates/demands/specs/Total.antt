@@ -10,7 +10,7 @@ use lib.Dec.{eqb, lit≤}
 use borrow.Author.Tests.{lt-leb, le-ltb, leb-false, ne-eqb}
 use Rattle.rules.specs.Values.{limb, places, valueOf, elementAt, part, flat, pointAt, scalarAt}
 use Rattle.rules.specs.Group.{L, residues, total}
-use Rattle.rules.specs.Numbers.{rowBound, scalarBound}
+use Rattle.rules.specs.Numbers.{rowBound}
 use Rattle.rules.specs.Rows.{nafRow}
 use Rattle.rules.specs.Windows.{odd, limbsFlat, over, anyOver}
 use Rattle.rules.specs.Lists.{beyondMost, wildDigit, anyWild}
@@ -18,6 +18,7 @@ use Rattle.rules.specs.Engines.{products, entrySum, entryAt}
 use Rattle.rules.specs.Batch.{Memory, Pairs, Edit, memoryAfter, listAfter, memoryNotWhole, slotRow, slotWindow, slotDigit, fresh, totalRefusal, totalOf}
 use Rattle.laws.specs.Conditions.{or-none, any-absent, first-next, first-end}
 use Rattle.laws.specs.Parts.{part-at, flat-part}
+use Rattle.laws.specs.RadixRows.{scalar-has-row}
 use Rattle.laws.specs.NafRows.{naf-length, naf-digit-odd, naf-small}
 use Rattle.laws.specs.Windows.{odd-in}
 use Rattle.lent.proofs.Passed.{small}
@@ -27,11 +28,6 @@ use Rattle.demands.specs.Edits.{digitsLong, windowsLong}
 use Rattle.demands.specs.Ready.{prepared, slots, Ready, whole-in, same-count}
 use Rattle.demands.specs.Fresh.{freshOf, fresh-digits, fresh-windows, edited-is-fresh, prepared-fresh}
 use Rattle.demands.specs.Agree.{sumOf, Answers, answers, points-below}
-
--- today a scalar that an engine takes has a row
-bounds : (s : ℕ) → s < scalarBound → s < rowBound
-unfolding scalarBound rowBound
-bounds s h = h
 
 -- a digit of a NAF row of width 5 passes 10
 tame : (d : ℤ) → ((d ≡ pos 0 → ⊥) → natAbs d % 2 ≡ 1) → natAbs d < 16 → wildDigit d ≡ false
@@ -48,7 +44,7 @@ module _ (l : Pairs) (r : Ready l) where
   p i = pointAt (l .points) i
 
   scalar-small : (i : ℕ) → i < slots l → s i < rowBound
-  scalar-small i h = bounds (s i) (small (l .scalars) i (r .small) h)
+  scalar-small i h = scalar-has-row (s i) (small (l .scalars) i (r .small) h)
 
   point-under : (i : ℕ) → i < slots l → p i < L
   point-under i h = leb-false L (p i) (points-below l r i (omega (arith, r .equal)))

@@ -1,0 +1,52 @@
+-- Demand 2, sums: every engine that does not refuse returns the sum of scalar times point modulo L over the pairs it takes; no pairs give 0.
+use mathlib.Core.Path.{_≡_, refl, ap, _∙_}
+use mathlib.Core.List.{List}
+use Prim.Native.Nat.{ℕ, _+_, _*_, _%_}
+use native.Mathlib.Nat.{zero-mod}
+use lib.IntN.{ℤ}
+use Rattle.rules.specs.Values.{limb, places, pointAt, scalarAt}
+use Rattle.rules.specs.Group.{L, total}
+use Rattle.rules.specs.Numbers.{given, summed}
+use Rattle.rules.specs.Lists.{scalarCount, pairs}
+use Rattle.rules.specs.Rows.{nafRow}
+use Rattle.rules.specs.Engines.{products, rowsDigit, entrySum, entryAt, single, double, radixStraus, nafStraus, pippenger, mixed}
+use Rattle.laws.specs.Conditions.{given-done}
+
+value-of : (n v a d : ℕ) → n ≡ 0 → summed n v a d .value ≡ places limb 4 v
+unfolding summed
+value-of n v a d z = ap (λ (k : ℕ). places limb 4 (given k 0 v)) z ∙ ap (places limb 4) (given-done 0 v)
+
+-- no pairs give 0
+pub no-pairs : (ss ps : List ℕ) → products ss ps 0 % L ≡ 0
+unfolding products total
+no-pairs ss ps = zero-mod L
+
+pub single-sum : (p s : List ℕ) → single p s .number ≡ 0 → single p s .value ≡ places limb 4 (scalarAt s 0 * pointAt p 0 % L)
+unfolding single summed
+single-sum p s z = value-of _ _ 0 0 z
+
+pub double-sum : (a p b : List ℕ) → double a p b .number ≡ 0 → double a p b .value ≡ places limb 4 ((scalarAt a 0 * pointAt p 0 + scalarAt b 0) % L)
+unfolding double summed
+double-sum a p b z = value-of _ _ 0 0 z
+
+pub radix-straus-sum : (ss ps : List ℕ) (ds : List ℤ) (ls : List ℕ) → radixStraus ss ps ds ls .result .number ≡ 0
+    → radixStraus ss ps ds ls .result .value ≡ places limb 4 (products ss ps (pairs ss ps) % L)
+unfolding radixStraus summed
+radix-straus-sum ss ps ds ls z = value-of _ _ 0 0 z
+
+pub naf-straus-sum : (ss ps fs : List ℕ) (ds : List ℤ) (ls : List ℕ) → nafStraus ss ps fs ds ls .result .number ≡ 0
+    → nafStraus ss ps fs ds ls .result .value ≡ places limb 4 (products ss ps (pairs ss ps) % L)
+unfolding nafStraus summed
+naf-straus-sum ss ps fs ds ls z = value-of _ _ 0 0 z
+
+pub pippenger-sum : (ss ps fs : List ℕ) (ds : List ℤ) (bs : List ℕ) → pippenger ss ps fs ds bs .result .number ≡ 0
+    → pippenger ss ps fs ds bs .result .value ≡ places limb 4 (products ss ps (pairs ss ps) % L)
+unfolding pippenger summed
+pippenger-sum ss ps fs ds bs z = value-of _ _ 0 0 z
+
+-- static tables as they stand: 2^j times the entry that the digit names
+pub precomputed-straus-sum : (ts sss ss ps fs : List ℕ) (ds : List ℤ) (ls : List ℕ) → mixed ts sss ss ps fs ds ls .result .number ≡ 0
+    → mixed ts sss ss ps fs ds ls .result .value
+    ≡ places limb 4 ((products ss ps (scalarCount ss) + entrySum (rowsDigit (nafRow 8) sss) (entryAt 256 ts) (scalarCount sss) 256) % L)
+unfolding mixed summed
+precomputed-straus-sum ts sss ss ps fs ds ls z = value-of _ _ 0 0 z
