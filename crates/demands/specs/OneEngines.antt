@@ -8,6 +8,10 @@ use Rattle.variable_base.proofs.mul.Kinds as variable-base-mul-K
 use Rattle.variable_base.proofs.mul.Reads as variable-base-mul
 use Rattle.vartime_double_base.proofs.mul.Kinds as vartime-double-base-mul-K
 use Rattle.vartime_double_base.proofs.mul.Reads as vartime-double-base-mul
+use Rattle.straus.proofs.multiscalar_mul.Kinds as straus-multiscalar-mul-K
+use Rattle.straus.proofs.multiscalar_mul.Reads as straus-multiscalar-mul
+use Rattle.straus.proofs.optional_multiscalar_mul.Kinds as straus-optional-multiscalar-mul-K
+use Rattle.straus.proofs.optional_multiscalar_mul.Reads as straus-optional-multiscalar-mul
 use Rattle.pippenger.proofs.optional_multiscalar_mul.Kinds as pippenger-optional-multiscalar-mul-K
 use Rattle.pippenger.proofs.optional_multiscalar_mul.Reads as pippenger-optional-multiscalar-mul
 use Rattle.batch.proofs.prepare.Kinds as batch-prepare-K
@@ -26,6 +30,13 @@ one-variable-base-mul κs a r r′ s s′ p q = p ∙ sym q
 -- vartime_double_base
 pub one-vartime-double-base-mul : One 3 vartime-double-base-mul-K.ps vartime-double-base-mul-K.r vartime-double-base-mul.Post
 one-vartime-double-base-mul κs a r r′ s s′ p q = p ∙ sym q
+
+-- straus
+pub one-straus-multiscalar-mul : Whole 4 straus-multiscalar-mul-K.ps straus-multiscalar-mul-K.r straus-multiscalar-mul.Post {B = After} (λ κs r s. record { result = r; digits = now (s .1 .1 .0); limbs = now (s .1 .1 .1 .0) })
+one-straus-multiscalar-mul κs a r r′ s s′ p q = p ∙ sym q
+
+pub one-straus-optional-multiscalar-mul : Whole 5 straus-optional-multiscalar-mul-K.ps straus-optional-multiscalar-mul-K.r straus-optional-multiscalar-mul.Post {B = After} (λ κs r s. record { result = r; digits = now (s .1 .1 .1 .0); limbs = now (s .1 .1 .1 .1 .0) })
+one-straus-optional-multiscalar-mul κs a r r′ s s′ p q = p ∙ sym q
 
 -- pippenger
 pub one-pippenger-optional-multiscalar-mul : Whole 5 pippenger-optional-multiscalar-mul-K.ps pippenger-optional-multiscalar-mul-K.r pippenger-optional-multiscalar-mul.Post {B = After} (λ κs r s. record { result = r; digits = now (s .1 .1 .1 .0); limbs = now (s .1 .1 .1 .1 .0) })

@@ -1,0 +1,6 @@
+mod Refusing
+mod Filling
+mod Walking
+mod Answering
+mod RadixDone
+mod NafDone
