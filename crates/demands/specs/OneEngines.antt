@@ -3,6 +3,7 @@ use mathlib.Core.Path.{sym, _∙_}
 use denote.Ref.{now}
 use Rattle.rules.specs.Engines.{After}
 use Rattle.rules.specs.Batch.{AfterEdit}
+use Rattle.rules.specs.Engines.{AfterNew}
 use Rattle.demands.specs.One.{One, Whole}
 use Rattle.variable_base.proofs.mul.Kinds as variable-base-mul-K
 use Rattle.variable_base.proofs.mul.Reads as variable-base-mul
@@ -12,6 +13,10 @@ use Rattle.straus.proofs.multiscalar_mul.Kinds as straus-multiscalar-mul-K
 use Rattle.straus.proofs.multiscalar_mul.Reads as straus-multiscalar-mul
 use Rattle.straus.proofs.optional_multiscalar_mul.Kinds as straus-optional-multiscalar-mul-K
 use Rattle.straus.proofs.optional_multiscalar_mul.Reads as straus-optional-multiscalar-mul
+use Rattle.precomputed_straus.proofs.new.Kinds as precomputed-straus-new-K
+use Rattle.precomputed_straus.proofs.new.Reads as precomputed-straus-new
+use Rattle.precomputed_straus.proofs.optional_mixed_multiscalar_mul.Kinds as precomputed-straus-optional-mixed-multiscalar-mul-K
+use Rattle.precomputed_straus.proofs.optional_mixed_multiscalar_mul.Reads as precomputed-straus-optional-mixed-multiscalar-mul
 use Rattle.pippenger.proofs.optional_multiscalar_mul.Kinds as pippenger-optional-multiscalar-mul-K
 use Rattle.pippenger.proofs.optional_multiscalar_mul.Reads as pippenger-optional-multiscalar-mul
 use Rattle.batch.proofs.prepare.Kinds as batch-prepare-K
@@ -37,6 +42,13 @@ one-straus-multiscalar-mul κs a r r′ s s′ p q = p ∙ sym q
 
 pub one-straus-optional-multiscalar-mul : Whole 5 straus-optional-multiscalar-mul-K.ps straus-optional-multiscalar-mul-K.r straus-optional-multiscalar-mul.Post {B = After} (λ κs r s. record { result = r; digits = now (s .1 .1 .1 .0); limbs = now (s .1 .1 .1 .1 .0) })
 one-straus-optional-multiscalar-mul κs a r r′ s s′ p q = p ∙ sym q
+
+-- precomputed_straus
+pub one-precomputed-straus-new : Whole 2 precomputed-straus-new-K.ps precomputed-straus-new-K.r precomputed-straus-new.Post {B = AfterNew} (λ κs r s. record { result = r; tables = now (s .1 .0) })
+one-precomputed-straus-new κs a r r′ s s′ p q = p ∙ sym q
+
+pub one-precomputed-straus-optional-mixed-multiscalar-mul : Whole 7 precomputed-straus-optional-mixed-multiscalar-mul-K.ps precomputed-straus-optional-mixed-multiscalar-mul-K.r precomputed-straus-optional-mixed-multiscalar-mul.Post {B = After} (λ κs r s. record { result = r; digits = now (s .1 .1 .1 .1 .1 .0); limbs = now (s .1 .1 .1 .1 .1 .1 .0) })
+one-precomputed-straus-optional-mixed-multiscalar-mul κs a r r′ s s′ p q = p ∙ sym q
 
 -- pippenger
 pub one-pippenger-optional-multiscalar-mul : Whole 5 pippenger-optional-multiscalar-mul-K.ps pippenger-optional-multiscalar-mul-K.r pippenger-optional-multiscalar-mul.Post {B = After} (λ κs r s. record { result = r; digits = now (s .1 .1 .1 .0); limbs = now (s .1 .1 .1 .1 .0) })

@@ -19,9 +19,10 @@ use Rattle.rules.specs.Numbers.{rowBound}
 use Rattle.rules.specs.Rows.{digit, nafRow, notLong, widthOff, nafRowOf}
 use Rattle.rules.specs.Windows.{odd, limbsFlat, anyOver}
 use Rattle.rules.specs.Lists.{anyBig}
-use Rattle.rules.specs.Engines.{rowsDigit, doubleRefusal, startPlace}
+use Rattle.rules.specs.Engines.{rowsDigit, doubleConditions, doubleRefusal, startPlace}
 use Rattle.rules.specs.Helpers.{elementsFlat, Made, madeOdd, walked}
-use Rattle.laws.specs.Conditions.{or-split, first-none}
+use Rattle.laws.specs.Conditions.{or-split}
+use Rattle.laws.specs.Answers.{condition, first-done}
 use Rattle.laws.specs.Weight.{weight-le}
 use Rattle.lent.proofs.Puts.{put-same}
 use Rattle.lent.proofs.Passed.{small, under}
@@ -54,32 +55,33 @@ pub record Done (a p b : List ℕ) (made : Counts) (w : Walk) : Type 0 where
 
 -- what the tests that passed say
 module _ (a p b : List ℕ) (passed : doubleRefusal a p b ≡ 0) where
-  long : (notLong 32 a || notLong 4 p || notLong 32 b) ≡ false
+  told : (i : ℕ) → condition (doubleConditions a p b) i ≡ false
   unfolding doubleRefusal
-  long = first-none _ 1 _ (λ e. omega arith) (sym passed) .0
+  told = first-done (doubleConditions a p b) (lit< tt, (lit< tt, (lit< tt, tt))) .0 passed
 
-  big : (anyBig a || anyBig b) ≡ false
-  unfolding doubleRefusal
-  big = first-none _ 6 _ (λ e. omega arith) (first-none _ 1 _ (λ e. omega arith) (sym passed) .1) .0
+  long : ((length a ≡ 32) × (length p ≡ 4)) × (length b ≡ 32)
+  unfolding condition
+  long =
+      let o = or-split (notLong 32 a || notLong 4 p) (notLong 32 b) (told 1) in
+      let u = or-split (notLong 32 a) (notLong 4 p) (o .0) in
+      ((is-long 32 a (u .0), is-long 4 p (u .1)), is-long 32 b (o .1))
+
+  small-both : (anyBig a ≡ false) × (anyBig b ≡ false)
+  unfolding condition
+  small-both = or-split (anyBig a) (anyBig b) (told 6)
 
   over : anyOver p ≡ false
-  unfolding doubleRefusal
-  over = first-none _ 7 _ (λ e. omega arith) (first-none _ 6 _ (λ e. omega arith) (first-none _ 1 _ (λ e. omega arith) (sym passed) .1) .1) .0
+  unfolding condition
+  over = told 7
 
   row-a : (i : ℕ) → i < 1 → scalarAt a i < rowBound
-  row-a i h =
-      let e : length a ≡ 32 = is-long 32 a (or-split (notLong 32 a) (notLong 4 p) (or-split (notLong 32 a || notLong 4 p) (notLong 32 b) long .0) .0) in
-      has-row (small a i (or-split (anyBig a) (anyBig b) big .0) (omega arith))
+  row-a i h = has-row (small a i (small-both .0) (omega (arith, long)))
 
   row-b : (i : ℕ) → i < 1 → scalarAt b i < rowBound
-  row-b i h =
-      let e : length b ≡ 32 = is-long 32 b (or-split (notLong 32 a || notLong 4 p) (notLong 32 b) long .1) in
-      has-row (small b i (or-split (anyBig a) (anyBig b) big .1) (omega arith))
+  row-b i h = has-row (small b i (small-both .1) (omega (arith, long)))
 
   point-in : (i : ℕ) → i < 1 → pointAt p i < L
-  point-in i h =
-      let e : length p ≡ 4 = is-long 4 p (or-split (notLong 32 a) (notLong 4 p) (or-split (notLong 32 a || notLong 4 p) (notLong 32 b) long .0) .1) in
-      under p i over (omega arith)
+  point-in i h = under p i over (omega (arith, long))
 
   abbrev r : List ℤ
   r = nafRow 5 (scalarAt a 0)

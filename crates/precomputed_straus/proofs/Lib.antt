@@ -1,0 +1,6 @@
+mod Asked
+mod Filling
+mod DoneTables
+mod MixedRows
+mod DoneMixed
+pub mod StaticPairs

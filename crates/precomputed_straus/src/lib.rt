@@ -1,0 +1,88 @@
+// Precomputed Straus: static tables of width 8, dynamic rows and windows of width 5.
+ghost use mathlib.Core.Path.{_≡_};
+ghost use lib.ListN.{length};
+ghost use Rattle.rules.specs.Engines.{After, AfterNew, newTables, mixed};
+ghost use Rattle.precomputed_straus.specs.Fill.{Ready, mixedWalk};
+use rules::Counted;
+use rules::Sum;
+use rules::Walk;
+
+pub(crate) mod asks;
+pub(crate) mod fill;
+
+// The static tables of points without flags.
+pub fn new(points: &[u64], tables: &mut [u64]) -> Counted
+    ensures { λ r. ⌜ _≡_ {A = AfterNew} (record { result = r; tables = now (tables .exit) }) (newTables (now (points .entry)) (now (tables .entry))) ⌝ }
+{
+    let number = crate::asks::new_refusal(points, tables.len());
+    if number != 0 {
+        return answer::refused_counted(number);
+    }
+    let made = crate::fill::tables(points, &mut *tables);
+    answer::counted(made)
+}
+
+// The walk over dynamic pairs and static rows, which are laid into room of just their length.
+fn walk(
+    tables: &[u64],
+    static_scalars: &[u8],
+    scalars: &[u8],
+    points: &[u64],
+    digits: &mut [i8],
+    limbs: &mut [u64],
+) -> Walk
+    requires { ⌜ Ready (now tables) (now «static_scalars») (now scalars) (now points) (length (now digits)) (length (now limbs)) ⌝ }
+    ensures { λ r. ⌜ r ≡ mixedWalk (now (tables .entry)) (now («static_scalars» .entry)) (now (scalars .entry)) (now (points .entry)) ⌝ }
+{
+    let d = 256 * (scalars.len() / 32);
+    let made = columns::fill(scalars, points, &mut digits[..d], &mut *limbs);
+    crate::fill::rows(static_scalars, &mut digits[d..]);
+    let rows = &digits[..];
+    let w = columns::walk(&rows[..d], &limbs[..], &rows[d..], tables, 256);
+    let element = w.element;
+    Walk {
+        element,
+        additions: made.additions + w.additions,
+        doublings: made.doublings + w.doublings,
+    }
+}
+
+// The sum over static rows on their tables as they stand, and over dynamic pairs.
+pub fn optional_mixed_multiscalar_mul(
+    tables: &[u64],
+    static_scalars: &[u8],
+    dynamic_scalars: &[u8],
+    dynamic_points: &[u64],
+    dynamic_flags: &[u8],
+    digits: &mut [i8],
+    limbs: &mut [u64],
+) -> Sum
+    ensures { λ r. ⌜ _≡_ {A = After} (record { result = r; digits = now (digits .exit); limbs = now (limbs .exit) }) (mixed (now (tables .entry)) (now («static_scalars» .entry)) (now («dynamic_scalars» .entry)) (now («dynamic_points» .entry)) (now («dynamic_flags» .entry)) (now (digits .entry)) (now (limbs .entry))) ⌝ }
+{
+    let number = crate::asks::mixed_refusal(
+        tables,
+        static_scalars,
+        dynamic_scalars,
+        dynamic_points,
+        dynamic_flags,
+        digits.len(),
+        limbs.len(),
+    );
+    if number != 0 {
+        return answer::refused_sum(number);
+    }
+    let p = dynamic_scalars.len() / 32;
+    let e = 256 * (static_scalars.len() / 32 + p);
+    let f = 32 * p;
+    let w = walk(
+        tables,
+        static_scalars,
+        dynamic_scalars,
+        dynamic_points,
+        &mut digits[..e],
+        &mut limbs[..f],
+    );
+    lent::room::clear_digits(&mut *digits, e);
+    lent::room::clear_limbs(&mut *limbs, f);
+    answer::sum(w.element, w.additions, w.doublings)
+}
