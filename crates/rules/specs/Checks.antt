@@ -13,6 +13,7 @@ use Rattle.rules.specs.Numbers.{rowBound, scalarBound, any, first, given
 use Rattle.rules.specs.Rows.{rowSum, usedPlaces, centred, above, nafDigits, nafRow, radixDigits, radixRow, notLong, widthOff, rowless, recodeRefusal, sameDigit, sameRow, noScalar, readNafRefusal, readRadixRefusal, readNaf, readRadix}
 use Rattle.rules.specs.Windows.{stepped, successive, odd, selected, selectedOdd, limbsFlat, over, anyOver, pointRefusal, lookupTable, nafLookupTable5, nafLookupTable8, beyond, beyondOdd, lookupRefusal, select, selectNaf}
 use Rattle.rules.specs.Lists.{notIn, beyondMost, pairs, listsNotWhole, listsTooMany, shorter, otherThan, bigAt, anyBig, flagAt, anyFlag, pointOver, anyPoint, badLists, isAbsent, absentBelow, wildDigit, anyWild, stored}
+use Rattle.rules.specs.Calls.{pairRefusal}
 use Rattle.rules.specs.Engines.{products, rowsDigit, radixStrausRefusal, nafStrausRefusal, bucketWidth, pickedBy, bucketLimbs, pippengerRefusal, pippenger, newRefusal, newTables, entrySum, entryAt, mixedRefusal, mixed, singleRefusal, single, doubleRefusal, startPlace, double}
 use Rattle.rules.specs.Batch.{slotRow, slotWindow, prepareRefusal, fresh, prepare, memoryNotWhole, setRefusal, valueIn, setIn, set, clear, totalRefusal, slotDigit, totalOf}
 use Rattle.rules.specs.Table.{sparse, minus, scalar, point, said, two, points}
@@ -96,6 +97,7 @@ high = point L
 pub record Ordered : Type 0 where
   pub recoding : recodeRefusal 2 (0 ∷ []) 9 ∷ recodeRefusal 2 big 1 ∷ recodeRefusal 4 big 3 ∷ [] ≡ 1 ∷ 3 ∷ 3 ∷ []
   pub reading : readNafRefusal [] 1 ∷ readNafRefusal (sparse 256 ((0, pos 2) ∷ [])) 9 ∷ readRadixRefusal [] 3 ∷ [] ≡ 1 ∷ 3 ∷ 1 ∷ []
+  pub group-calls : pairRefusal (1 ∷ high) high ∷ pairRefusal high [] ∷ [] ≡ 1 ∷ 1 ∷ []
   pub looking-up : pointRefusal (1 ∷ high) ∷ lookupRefusal 8 (beyond 8 (pos 9)) high ∷ [] ≡ 1 ∷ 1 ∷ []
   pub single-base : singleRefusal [] big ∷ singleRefusal high big ∷ [] ≡ 1 ∷ 6 ∷ []
   pub double-base : doubleRefusal big [] (scalar 0) ∷ doubleRefusal (scalar 0) high big ∷ [] ≡ 1 ∷ 6 ∷ []
@@ -109,5 +111,5 @@ pub record Ordered : Type 0 where
   pub totalling : totalRefusal (record { digits = replicate 257 (pos 2); windows = replicate 32 0 }) ∷ totalRefusal (record { digits = replicate 256 (pos 2); windows = replicate 31 0 }) ∷ [] ≡ 1 ∷ 1 ∷ []
 
 pub ordered : Ordered
-unfolding number places sum valueOf elementOf part elementAt pointAt optionalAt scalarAt L rowBound scalarBound any first rowSum usedPlaces centred above nafDigits nafRow radixDigits radixRow notLong widthOff rowless recodeRefusal sameDigit sameRow noScalar readNafRefusal readRadixRefusal over anyOver pointRefusal beyond lookupRefusal notIn beyondMost pairs listsNotWhole listsTooMany shorter otherThan bigAt anyBig flagAt anyFlag pointOver anyPoint isAbsent absentBelow wildDigit anyWild radixStrausRefusal badLists nafStrausRefusal bucketWidth pickedBy bucketLimbs pippengerRefusal newRefusal mixedRefusal singleRefusal doubleRefusal prepareRefusal memoryNotWhole setRefusal totalRefusal
-ordered = record { recoding = refl; reading = refl; looking-up = refl; single-base = refl; double-base = refl; radix-straus = refl; naf-straus = refl; pippengers = refl; building = refl; mixing = refl; preparing = refl; setting = refl; totalling = refl }
+unfolding pairRefusal number places sum valueOf elementOf part elementAt pointAt optionalAt scalarAt L rowBound scalarBound any first rowSum usedPlaces centred above nafDigits nafRow radixDigits radixRow notLong widthOff rowless recodeRefusal sameDigit sameRow noScalar readNafRefusal readRadixRefusal over anyOver pointRefusal beyond lookupRefusal notIn beyondMost pairs listsNotWhole listsTooMany shorter otherThan bigAt anyBig flagAt anyFlag pointOver anyPoint isAbsent absentBelow wildDigit anyWild radixStrausRefusal badLists nafStrausRefusal bucketWidth pickedBy bucketLimbs pippengerRefusal newRefusal mixedRefusal singleRefusal doubleRefusal prepareRefusal memoryNotWhole setRefusal totalRefusal
+ordered = record { recoding = refl; reading = refl; group-calls = refl; looking-up = refl; single-base = refl; double-base = refl; radix-straus = refl; naf-straus = refl; pippengers = refl; building = refl; mixing = refl; preparing = refl; setting = refl; totalling = refl }

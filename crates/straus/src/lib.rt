@@ -10,9 +10,9 @@ pub(crate) mod radix;
 pub fn multiscalar_mul(scalars: &[u8], points: &[u64], digits: &mut [i8], limbs: &mut [u64]) -> Sum
     ensures { λ r. ⌜ record { result = r; digits = now (digits .exit); limbs = now (limbs .exit) } ≡ radixStraus (now (scalars .entry)) (now (points .entry)) (now (digits .entry)) (now (limbs .entry)) ⌝ }
 {
-    let n = crate::radix::refusal(scalars, points, digits.len(), limbs.len());
-    if n != 0 {
-        return answer::refused_sum(n);
+    let number = crate::radix::refusal(scalars, points, digits.len(), limbs.len());
+    if number != 0 {
+        return answer::refused_sum(number);
     }
     let m = lent::smaller(scalars.len() / 32, points.len() / 4);
     let made = crate::radix::fill(scalars, points, m, &mut *digits, &mut *limbs);
