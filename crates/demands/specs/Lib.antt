@@ -7,6 +7,7 @@ pub mod Total
 pub mod Refusals
 pub mod Rows
 pub mod Sums
+pub mod Sheet
 pub mod One
 pub mod OneGroup
 pub mod OneRows

@@ -3,14 +3,16 @@ use mathlib.Core.Path.{_≡_, refl, ap, _∙_}
 use mathlib.Core.List.{List}
 use Prim.Native.Nat.{ℕ, _+_, _*_, _%_}
 use native.Mathlib.Nat.{zero-mod}
+use lib.ListN.{length}
 use lib.IntN.{ℤ}
 use Rattle.rules.specs.Values.{limb, places, pointAt, scalarAt}
 use Rattle.rules.specs.Group.{L, total}
 use Rattle.rules.specs.Numbers.{given, summed}
 use Rattle.rules.specs.Lists.{scalarCount, pairs}
 use Rattle.rules.specs.Rows.{nafRow}
-use Rattle.rules.specs.Engines.{products, rowsDigit, entrySum, entryAt, single, double, radixStraus, nafStraus, pippenger, mixed}
+use Rattle.rules.specs.Engines.{products, rowsDigit, entrySum, entryAt, single, double, radixStraus, nafStraus, pippenger, newRefusal, newTables, mixedRefusal, mixed}
 use Rattle.laws.specs.Conditions.{given-done}
+use Rattle.precomputed_straus.proofs.StaticPairs.{mixed-whole}
 
 value-of : (n v a d : ℕ) → n ≡ 0 → summed n v a d .value ≡ places limb 4 v
 unfolding summed
@@ -50,3 +52,10 @@ pub precomputed-straus-sum : (ts sss ss ps fs : List ℕ) (ds : List ℤ) (ls : 
     ≡ places limb 4 ((products ss ps (scalarCount ss) + entrySum (rowsDigit (nafRow 8) sss) (entryAt 256 ts) (scalarCount sss) 256) % L)
 unfolding mixed summed
 precomputed-straus-sum ts sss ss ps fs ds ls z = value-of _ _ 0 0 z
+
+-- static tables as `new` builds them: the static pairs are in the sum
+pub precomputed-straus-built : (sps ts sss ss ps fs : List ℕ) (ds : List ℤ) (ls : List ℕ) → newRefusal sps (length ts) ≡ 0
+    → mixedRefusal (newTables sps ts .tables) sss ss ps fs (length ds) (length ls) ≡ 0
+    → mixed (newTables sps ts .tables) sss ss ps fs ds ls .result .value ≡ places limb 4 ((products ss ps (scalarCount ss) + products sss sps (scalarCount sss)) % L)
+unfolding summed
+precomputed-straus-built sps ts sss ss ps fs ds ls built passed = ap (λ r. r .value) (mixed-whole sps ts built sss ss ps fs ds ls passed) ∙ value-of 0 _ 0 0 refl

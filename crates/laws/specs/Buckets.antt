@@ -2,15 +2,11 @@
 -- Bucket k, from 0, holds what is to be counted k + 1 times.
 use mathlib.Core.Path.{_≡_, refl, sym, _∙_, ap}
 use mathlib.Core.Bool.{Bool, true, false, cond}
-use mathlib.Core.List.{List}
-use Prim.Native.Nat.{ℕ, zero, suc, _+_, _-_, _<_, _≤_}
+use Prim.Native.Nat.{ℕ, zero, suc, _+_, _<_, _≤_}
 use native.Mathlib.Nat.{lt-suc-self, le-step}
 use native.Mathlib.Numerals.{add-one}
-use native.Mathlib.Decide.{ℕ-discrete}
 use native.Mathlib.Omega.{arith}
 use lib.IntN.{ℤ, pos, negsuc, natAbs}
-use lib.ListN.{length, getD, set}
-use lib.Seq.{getD-set-same, getD-set-other}
 use lib.Dec.{eqb}
 use borrow.Author.Tests.{eq-eqb, ne-eqb}
 use Rattle.rules.specs.Group.{Ops, times, timesZ, sum}
@@ -37,15 +33,6 @@ module _ {A : Type 0} (o : Ops A) where
   -- the first m points put, each by its digit, into empty buckets
   unfoldable pub filled : (ℕ → ℤ) → (ℕ → A) → ℕ → ℕ → A
   filled d P m = up (λ i b. put (d i) (P i) b) m (λ k. o .e)
-
-  pub filled-none : (d : ℕ → ℤ) (P : ℕ → A) (k : ℕ) → filled d P 0 k ≡ o .e
-  unfolding filled up
-  filled-none d P k = refl
-
-  -- one point more
-  pub filled-more : (d : ℕ → ℤ) (P : ℕ → A) (m k : ℕ) → filled d P (m + 1) k ≡ put (d m) (P m) (filled d P m) k
-  unfolding filled up
-  filled-more d P m k = ap (λ (n : ℕ). filled d P n k) (add-one m)
 
   -- one turn of the running sums: bucket k to the first, and the first to the second
   abbrev pub ran : (ℕ → A) → ℕ → A × A → A × A
@@ -164,18 +151,3 @@ module _ {A : Type 0} (o : Ops A) where
       ap (λ (s : A × A). s .1)
       (down-ext n (b n, b n) (λ k p s. ap (λ (x : A). (o .op (s .0) x, o .op (s .1) (o .op (s .0) x))) (h k (omega (arith, p))))
       ∙ ap (λ (x : A). down (ran o c) n (x, x)) (h n (omega arith)))
-
-  -- buckets in a list: the store of the one that the digit names
-  pub put-set : (d : ℤ) (p z : A) (bs : List A) → 0 < natAbs d → natAbs d ≤ length bs → (k : ℕ)
-      → getD (set bs (natAbs d - 1) (moved o d (getD bs (natAbs d - 1) z) p)) k z ≡ put o d p (λ i. getD bs i z) k
-  put-set d p z bs some le k = go (ℕ-discrete k (natAbs d - 1))
-    where
-      go : Dec (k ≡ natAbs d - 1) → getD (set bs (natAbs d - 1) (moved o d (getD bs (natAbs d - 1) z) p)) k z ≡ put o d p (λ i. getD bs i z) k
-      go (yes eq) =
-          ap (λ (i : ℕ). getD (set bs (natAbs d - 1) (moved o d (getD bs (natAbs d - 1) z) p)) i z) eq
-          ∙ getD-set-same bs (natAbs d - 1) (moved o d (getD bs (natAbs d - 1) z) p) z (omega arith)
-          ∙ ap (λ (i : ℕ). moved o d (getD bs i z) p) (sym eq)
-          ∙ sym (put-here o d p (λ i. getD bs i z) k (omega arith))
-      go (no ne) =
-          getD-set-other bs (natAbs d - 1) k (moved o d (getD bs (natAbs d - 1) z) p) z ne
-          ∙ sym (put-other o d p (λ i. getD bs i z) k (λ at. ne (omega arith)))

@@ -8,7 +8,7 @@ use lib.IntN.{ℤ, pos, negsuc, natAbs}
 use lib.Dec.{eqb}
 use Rattle.rules.specs.Group.{Ops}
 use Rattle.rules.specs.Loops.{up, down, doubled, oddEntry, moved, column, walk}
-use Rattle.rules.specs.Windows.{stepped, successive, odd, selected, selectedOdd}
+use Rattle.rules.specs.Windows.{stepped, successive, selected, selectedOdd}
 use Rattle.laws.specs.Loops.{up-carry, down-carry}
 use Rattle.laws.specs.Columns.{turn}
 use Rattle.laws.specs.Walk.{Named}
@@ -76,12 +76,6 @@ module _ {A C : Type 0} {o : Ops A} {u : Ops C} {In : A → Type 0} {φ : A → 
   pub successive-carry : {p : A} (n : ℕ) → In p → In (successive o p n) × (φ (successive o p n) ≡ successive u (φ p) n)
   unfolding successive
   successive-carry n h = stepped-carry n h h
-
-  pub odd-carry : {p : A} (n : ℕ) → In p → In (odd o p n) × (φ (odd o p n) ≡ odd u (φ p) n)
-  unfolding odd
-  odd-carry {p} n h =
-      let r = stepped-carry n (op-in h h) h in
-      (r .0, r .1 ∙ ap (λ (s : C). stepped u s (φ p) n) (to-op h h))
 
   pub selected-carry : (t : ℕ → A) (d : ℤ) → ((i : ℕ) → i < natAbs d → In (t i)) → In (selected o t d) × (φ (selected o t d) ≡ selected u (λ i. φ (t i)) d)
   unfolding selected

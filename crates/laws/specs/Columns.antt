@@ -1,31 +1,16 @@
 -- Columns of NAF digits, and the walk down them, by their turns: no law of the group is asked.
 use mathlib.Core.Path.{_≡_, refl, _∙_, ap}
-use mathlib.Core.Bool.{true}
-use Prim.Native.Nat.{ℕ, zero, suc, _+_, _<_, _≤_}
-use native.Mathlib.Omega.{arith}
-use lib.IntN.{ℤ, pos, negsuc}
-use lib.Signed.{ltZ}
-use borrow.Author.Tests.{ltb-true}
+use Prim.Native.Nat.{ℕ, zero, _+_, _<_, _≤_}
+use lib.IntN.{ℤ, pos}
 use Rattle.rules.specs.Group.{Ops}
 use Rattle.rules.specs.Loops.{down, oddEntry, moved, column, walk}
-use Rattle.laws.specs.Loops.{up-none, up-more, up-idle, up-ext, down-idle, down-ext}
+use Rattle.laws.specs.Loops.{up-none, up-more, up-idle, down-idle}
 
 module _ {A : Type 0} (o : Ops A) where
   -- one digit's entry, by its sign
   pub moved-zero : (q x : A) → moved o (pos 0) q x ≡ q
   unfolding moved
   moved-zero q x = refl
-
-  pub moved-above : (d : ℤ) (q x : A) → ltZ (pos 0) d ≡ true → moved o d q x ≡ o .op q x
-  unfolding moved
-  moved-above (pos zero) q x h = absurd (omega (arith, ltb-true 0 0 h))
-  moved-above (pos (suc n)) q x h = refl
-  moved-above (negsuc n) q x h = let w : _≡_ {A = ℕ} 0 1 = cc in absurd (omega arith)
-
-  pub moved-below : (d : ℤ) (q x : A) → ltZ d (pos 0) ≡ true → moved o d q x ≡ o .sub q x
-  unfolding moved
-  moved-below (pos n) q x h = absurd (omega (arith, ltb-true n 0 h))
-  moved-below (negsuc n) q x h = refl
 
   module _ (d : ℕ → ℕ → ℤ) (x : ℕ → ℕ → A) where
     pub column-none : (j : ℕ) (q : A) → column o d x 0 j q ≡ q
@@ -67,20 +52,3 @@ module _ {A : Type 0} (o : Ops A) where
         (λ j a b. ap (λ (q : A). column o d′ x′ m′ j (column o d x m j q)) ee
         ∙ ap (λ (q : A). column o d′ x′ m′ j q) (column-idle d x m j (o .e) (λ i p. h i j p a b))
         ∙ column-idle d′ x′ m′ j (o .e) (λ i p. h′ i j p a b))
-
-  -- equal digits that name equal entries
-  pub column-ext : (d₁ d₂ : ℕ → ℕ → ℤ) (x₁ x₂ : ℕ → ℕ → A) (m j : ℕ) (q : A) → ((i : ℕ) → i < m → d₁ i j ≡ d₂ i j)
-      → ((i : ℕ) → i < m → x₁ i (oddEntry (d₂ i j)) ≡ x₂ i (oddEntry (d₂ i j))) → column o d₁ x₁ m j q ≡ column o d₂ x₂ m j q
-  unfolding column
-  column-ext d₁ d₂ x₁ x₂ m j q hd hx =
-      up-ext m q (λ i p r. ap (λ (z : ℤ). moved o z r (x₁ i (oddEntry z))) (hd i p) ∙ ap (moved o (d₂ i j) r) (hx i p))
-
-  pub walk-ext : (d₁ d₂ : ℕ → ℕ → ℤ) (x₁ x₂ : ℕ → ℕ → A) (m : ℕ) (d₁′ d₂′ : ℕ → ℕ → ℤ) (x₁′ x₂′ : ℕ → ℕ → A) (m′ n : ℕ)
-      → ((i j : ℕ) → i < m → j < n → d₁ i j ≡ d₂ i j) → ((i j : ℕ) → i < m → j < n → x₁ i (oddEntry (d₂ i j)) ≡ x₂ i (oddEntry (d₂ i j)))
-      → ((i j : ℕ) → i < m′ → j < n → d₁′ i j ≡ d₂′ i j) → ((i j : ℕ) → i < m′ → j < n → x₁′ i (oddEntry (d₂′ i j)) ≡ x₂′ i (oddEntry (d₂′ i j)))
-      → walk o d₁ x₁ m d₁′ x₁′ m′ n ≡ walk o d₂ x₂ m d₂′ x₂′ m′ n
-  unfolding walk
-  walk-ext d₁ d₂ x₁ x₂ m d₁′ d₂′ x₁′ x₂′ m′ n hd hx hd′ hx′ =
-      down-ext n (o .e)
-      (λ j p q. column-ext d₁′ d₂′ x₁′ x₂′ m′ j (column o d₁ x₁ m j (o .op q q)) (λ i a. hd′ i j a p) (λ i a. hx′ i j a p)
-      ∙ ap (λ (r : A). column o d₂′ x₂′ m′ j r) (column-ext d₁ d₂ x₁ x₂ m j (o .op q q) (λ i a. hd i j a p) (λ i a. hx i j a p)))

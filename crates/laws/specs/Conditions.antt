@@ -66,16 +66,8 @@ module _ (f : ℕ → Bool) where
   pub any-end : (n i : ℕ) → i ≤ n → n ≤ i → any f i ≡ false → false ≡ any f n
   any-end n i h g e = let q : i ≡ n = omega arith in sym e ∙ ap (any f) q
 
-pub any-ext : {f g : ℕ → Bool} (n : ℕ) → ((i : ℕ) → i < n → f i ≡ g i) → any f n ≡ any g n
-unfolding any
-any-ext zero h = refl
-any-ext {f} {g} (suc n) h = rw (any-ext n (λ i p. h i (omega (arith, p))), h n (omega arith))
-
 -- the first condition that holds
 module _ (b : Bool) (n : ℕ) (r : List (Bool × ℕ)) where
-  pub first-here : b ≡ true → n ≡ first ((b, n) ∷ r)
-  unfolding first
-  first-here e = rw e
 
   pub first-next : (k : ℕ) → b ≡ false → k ≡ first r → k ≡ first ((b, n) ∷ r)
   unfolding first
@@ -108,13 +100,5 @@ unfolding given
 given-same {A} n z = go (eqb n 0)
   where
     go : (b : Bool) → cond b z z ≡ z
-    go true = refl
-    go false = refl
-
-pub given-map : {A C : Type 0} (f : A → C) (n : ℕ) (z x : A) → f (given n z x) ≡ given n (f z) (f x)
-unfolding given
-given-map f n z x = go (eqb n 0)
-  where
-    go : (b : Bool) → f (cond b x z) ≡ cond b (f x) (f z)
     go true = refl
     go false = refl

@@ -1,16 +1,13 @@
--- NAF rows, for the widths from 2: step laws, the row of a number by its states, and how large its digits are. They hold of every number.
-use mathlib.Core.Path.{_≡_, refl, ap, ap₂, _∙_}
+-- NAF rows, for the widths from 2: the row of a number by its states, and how large its digits are. They hold of every number.
+use mathlib.Core.Path.{_≡_, refl, ap, _∙_}
 use mathlib.Core.Bool.{cond}
-use mathlib.Core.List.{List, [], _∷_, _++_, append-nil}
 use Prim.Native.Nat.{ℕ, zero, suc, _+_, _-_, _*_, _/_, _%_, _^_, _≤_, _<_}
-use native.Mathlib.Nat.{mul-assoc, one-mul, add-zero, suc-add, zero-add, pow-succ', mul-mod-right, mul-div-right, lt-of-lt-of-le, div-one}
-use native.Mathlib.Numerals.{add-one}
+use native.Mathlib.Nat.{mul-assoc, one-mul, add-zero, suc-add, zero-add, pow-succ', mul-mod-right, mul-div-right, div-one}
 use native.Mathlib.Omega.{arith}
 use native.Mathlib.Decide.{decLt, ℕ-discrete}
-use lib.ListN.{length, replicate, take, List·getD-eq-default}
-use lib.Pow.{pow-add, pow-mono, pow-pos, shr-shr}
-use lib.IntN.{ℤ, pos, negsuc, natAbs, subℕ}
-use lib.Signed.{mag}
+use lib.ListN.{length, List·getD-eq-default}
+use lib.Pow.{pow-pos, shr-shr}
+use lib.IntN.{ℤ, pos, natAbs, subℕ}
 use lib.Dec.{eqb}
 use borrow.Author.Tests.{eq-eqb, ne-eqb}
 use Rattle.rules.specs.Loops.{oddEntry}
@@ -57,41 +54,6 @@ after-zeros w zero k a = rw (zero-add k)
 after-zeros w (suc m) k a =
     let e : nafNext w (2 ^ (suc m + k) * a) ≡ 2 ^ (m + k) * a = rw (suc-add m k) (twice-next w (m + k) a) in
     ap (after (nafNext w) m) e ∙ after-zeros w m k a
-
-digits-zeros : (w k n a : ℕ) → nafDigits w (k + n) (2 ^ k * a) ≡ replicate k (pos 0) ++ nafDigits w n a
-unfolding nafDigits
-digits-zeros w zero n a = rw (zero-add n, one-mul a)
-digits-zeros w (suc k) n a =
-    rw (suc-add k n)
-    (ap₂ _∷_ (even-digit w (2 ^ suc k * a) (twice-even k a)) (ap (nafDigits w (k + n)) (twice-next w k a) ∙ digits-zeros w k n a))
-
--- ---- step laws: where the state is even, where it is odd, and where it is odd and the row ends
-
-pub naf-even : (w k s : ℕ) → s % 2 ≡ 0 → nafDigits w (k + 1) s ≡ pos 0 ∷ nafDigits w k (s / 2)
-unfolding nafDigits
-naf-even w k s e = rw (add-one k) (ap₂ _∷_ (even-digit w s e) (ap (nafDigits w k) (even-next w s e)))
-
-pub naf-odd : (w k s : ℕ) → 1 ≤ w → s % 2 ≡ 1 → nafDigits w (k + w) s ≡ centred w s ∷ (replicate (w - 1) (pos 0) ++ nafDigits w k (above w s))
-unfolding nafDigits
-naf-odd w k s h e =
-    let n : k + w ≡ suc (w - 1 + k) = omega arith in
-    rw n (ap₂ _∷_ (odd-digit w s e) (ap (nafDigits w (w - 1 + k)) (odd-next w s e) ∙ digits-zeros w (w - 1) k (above w s)))
-
-pub naf-end : (w k s : ℕ) → 1 ≤ k → k ≤ w → s % 2 ≡ 1 → nafDigits w k s ≡ take k (centred w s ∷ replicate (w - 1) (pos 0))
-unfolding nafDigits
-naf-end w zero s a b e = absurd (omega arith)
-naf-end w (suc k) s a b e =
-    let m : w - 1 ≡ k + (w - 1 - k) = omega arith in
-    let f : 2 ^ (w - 1) * above w s ≡ 2 ^ k * (2 ^ (w - 1 - k) * above w s) =
-    ap (λ (x : ℕ). 2 ^ x * above w s) m ∙ rw (pow-add 2 k (w - 1 - k)) (mul-assoc (2 ^ k) (2 ^ (w - 1 - k)) (above w s)) in
-    let g : nafDigits w (k + 0) (2 ^ k * (2 ^ (w - 1 - k) * above w s)) ≡ replicate k (pos 0) ++ [] = digits-zeros w k 0 (2 ^ (w - 1 - k) * above w s) in
-    ap₂ _∷_ (odd-digit w s e)
-    (ap (nafDigits w k) (odd-next w s e ∙ f) ∙ rw (add-zero k, append-nil (replicate k (pos 0))) at g ∙ taken k (w - 1) (omega arith))
-  where
-    taken : (k n : ℕ) → k ≤ n → replicate k (pos 0) ≡ take k (replicate n (pos 0))
-    taken zero n h = refl
-    taken (suc k) zero h = absurd (omega arith)
-    taken (suc k) (suc n) h = ap (λ (l : List ℤ). pos 0 ∷ l) (taken k n (omega arith))
 
 -- ---- the row, digit by digit
 
@@ -169,14 +131,6 @@ naf-apart w s i j l r n = go (decLt i 256) (ℕ-discrete (after (nafNext w) i s 
     go (no h) e = absurd (n (past w s i (omega arith)))
     go (yes h) (yes e) = absurd (n (naf-digit w s i h ∙ even-digit w (after (nafNext w) i s) e))
     go (yes h) (no e) = gap w s i j l r (omega arith)
-
--- so it fits i8, and names an entry of its window
-pub naf-byte : (w s : ℕ) → 2 ≤ w → w ≤ 8 → (j : ℕ) → mag (digit (nafRow w s) j) < 128
-naf-byte w s lo hi j = within (digit (nafRow w s) j) (lt-of-lt-of-le (naf-small w s lo j) (pow-mono {i = w - 1} {j = 7} (omega arith)))
-  where
-    within : (d : ℤ) → natAbs d < 128 → mag d < 128
-    within (pos n) h = h
-    within (negsuc n) h = omega arith
 
 pub naf-entry : (w s : ℕ) → 2 ≤ w → (j : ℕ) → oddEntry (digit (nafRow w s) j) < 2 ^ (w - 2)
 unfolding oddEntry

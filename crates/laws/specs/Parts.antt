@@ -1,7 +1,7 @@
 -- Parts of flat lists: reading one, storing one, and the flat list of equal parts.
 use mathlib.Core.Path.{_≡_, refl, sym, ap, ap₂, _∙_}
 use mathlib.Core.Bool.{cond}
-use mathlib.Core.List.{List, [], _++_}
+use mathlib.Core.List.{List, _++_}
 use Prim.Native.Nat.{ℕ, zero, suc, _+_, _-_, _*_, _<_, _≤_}
 use native.Mathlib.Nat.{add-sub-cancel-left, mul-suc, mul-zero, mul-le-mul-left, le-step, lt-suc-self}
 use native.Mathlib.Decide.{decLt, ℕ-discrete}
@@ -12,8 +12,6 @@ use lib.Seq.{length-take-le, take-append-le, drop-append-le, take-at, drop-at, t
 use lib.Dec.{eqb}
 use borrow.Author.Tests.{eq-eqb, ne-eqb}
 use Rattle.rules.specs.Values.{part, flat}
-use Rattle.rules.specs.Numbers.{cleared}
-use Rattle.laws.specs.Room.{cleared-rest}
 
 pub within : {A : Type 0} (k j : ℕ) (xs ys : List A) → j + k ≤ length xs → take k (drop j (xs ++ ys)) ≡ take k (drop j xs)
 within k j xs ys h = ap (take k) (drop-append-le j xs ys (omega arith)) ∙ take-append-le k (drop j xs) ys (simp length-drop (omega arith))
@@ -29,10 +27,6 @@ module _ {A : Type 0} (a n : ℕ) (l ys : List A) (long : length ys ≡ n) (fits
   pub stored-length : length (stored a n l ys) ≡ length l
   stored-length = simp (length-append, length-drop) (omega (arith, front))
 
-  -- before it, in it, and after it
-  pub stored-before : (k : ℕ) (z : A) → k < a → getD (stored a n l ys) k z ≡ getD l k z
-  stored-before k z h = List·getD-append (take a l) (ys ++ drop n (drop a l)) z k (omega (arith, front)) ∙ getD-take a l k z h
-
   past : (k : ℕ) (z : A) → a ≤ k → getD (stored a n l ys) k z ≡ getD (ys ++ drop n (drop a l)) (k - a) z
   past k z h =
       let e : k ≡ length (take a l) + (k - a) = omega (arith, front) in
@@ -40,17 +34,6 @@ module _ {A : Type 0} (a n : ℕ) (l ys : List A) (long : length ys ≡ n) (fits
 
   pub stored-here : (k : ℕ) (z : A) → a ≤ k → k < a + n → getD (stored a n l ys) k z ≡ getD ys (k - a) z
   stored-here k z h g = past k z h ∙ List·getD-append ys (drop n (drop a l)) z (k - a) (omega arith)
-
-  pub stored-after : (k : ℕ) (z : A) → a + n ≤ k → getD (stored a n l ys) k z ≡ getD l k z
-  stored-after k z h =
-      let e : k - a ≡ length ys + (k - a - n) = omega arith in
-      let e′ : a + (n + (k - a - n)) ≡ k = omega arith in
-      past k z (omega arith)
-      ∙ ap (λ (i : ℕ). getD (ys ++ drop n (drop a l)) i z) e
-      ∙ getD-append-add ys (drop n (drop a l)) (k - a - n) z
-      ∙ getD-drop n (drop a l) (k - a - n) z
-      ∙ getD-drop a l (n + (k - a - n)) z
-      ∙ ap (λ (i : ℕ). getD l i z) e′
 
   -- the list from its end on is as it was
   pub stored-rest : (m : ℕ) → a + n ≤ m → drop m (stored a n l ys) ≡ drop m l
@@ -65,10 +48,6 @@ module _ {A : Type 0} (a n : ℕ) (l ys : List A) (long : length ys ≡ n) (fits
       ∙ drop-drop n a l)
       ∙ drop-drop (m - (a + n)) (a + n) l
       ∙ ap (λ (k : ℕ). drop k l) e
-
-  -- so all is the same but for what is to be cleared
-  pub stored-cleared : (z : A) (m : ℕ) → a + n ≤ m → cleared z m (stored a n l ys) ≡ cleared z m l
-  stored-cleared z m h = cleared-rest z m (stored a n l ys) l stored-length (stored-rest m h)
 
 module _ {A : Type 0} (n : ℕ) where
   -- the part from n i to n i + n, as code says it
@@ -125,9 +104,6 @@ module _ {A : Type 0} (n : ℕ) where
       ∙ ap (λ (j : ℕ). take j l) (sym (mul-suc n k))
 
 module _ {A : Type 0} where
-  pub flat-none : (f : ℕ → List A) → flat f 0 ≡ []
-  unfolding flat
-  flat-none f = refl
 
   -- one part more
   pub flat-more : (f : ℕ → List A) (k : ℕ) → flat f (k + 1) ≡ flat f k ++ f k

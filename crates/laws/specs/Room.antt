@@ -1,14 +1,12 @@
 -- Working room: what clearing does and composes to.
 use mathlib.Core.Path.{_≡_, refl, sym, _∙_, ap}
-use mathlib.Core.Bool.{Bool, true, false, cond}
 use mathlib.Core.List.{List, [], _∷_}
 use Prim.Native.Nat.{ℕ, zero, suc, _+_, _<_, _≤_}
-use native.Mathlib.Decide.{decLt}
 use native.Mathlib.Numerals.{add-one}
 use native.Mathlib.Omega.{arith}
 use lib.ListN.{length, set, drop}
-use lib.Dec.{eqb, ltb}
-use borrow.Author.Tests.{lt-ltb, le-ltb, ne-eqb}
+use lib.Dec.{eqb}
+use borrow.Author.Tests.{ne-eqb}
 use Rattle.rules.specs.Numbers.{given, cleared, roomAfter}
 
 module _ {A : Type 0} (z : A) where
@@ -43,14 +41,6 @@ module _ {A : Type 0} (z : A) where
   cleared-past (suc n) zero (x ∷ l) h g = absurd (omega arith)
   cleared-past (suc n) (suc k) (x ∷ l) h g = ap (λ (t : List A). z ∷ t) (cleared-past n k l (omega arith) (omega arith))
 
-  -- so a loop clears as many as there are
-  pub cleared-smaller : (n : ℕ) (l : List A) → cleared z (cond (ltb n (length l)) n (length l)) l ≡ cleared z n l
-  cleared-smaller n l = go (decLt n (length l))
-    where
-      go : Dec (n < length l) → cleared z (cond (ltb n (length l)) n (length l)) l ≡ cleared z n l
-      go (yes h) = rw (lt-ltb n (length l) h)
-      go (no h) = rw (le-ltb n (length l) (omega arith)) (cleared-past (length l) n l (omega arith) (omega arith))
-
   -- a store into what is to be cleared
   pub cleared-set : (n : ℕ) (l : List A) (i : ℕ) (v : A) → i < n → cleared z n (set l i v) ≡ cleared z n l
   unfolding cleared
@@ -76,10 +66,6 @@ module _ {A : Type 0} (z : A) where
   cleared-again (suc k) (suc n) [] h = refl
   cleared-again (suc k) (suc n) (x ∷ l) h = ap (λ (t : List A). z ∷ t) (cleared-again k n l (omega arith))
 
-  -- lists that agree but for the first k places agree but for the first n
-  pub cleared-wider : (k n : ℕ) (l₁ l₂ : List A) → k ≤ n → cleared z k l₁ ≡ cleared z k l₂ → cleared z n l₁ ≡ cleared z n l₂
-  cleared-wider k n l₁ l₂ h e = sym (cleared-again k n l₁ h) ∙ ap (cleared z n) e ∙ cleared-again k n l₂ h
-
   -- room after a call: refused, done
   pub room-refused : (n need : ℕ) (l : List A) → (n ≡ 0 → ⊥) → roomAfter z n need l ≡ l
   unfolding roomAfter given
@@ -88,27 +74,3 @@ module _ {A : Type 0} (z : A) where
   pub room-done : (need : ℕ) (l : List A) → roomAfter z 0 need l ≡ cleared z need l
   unfolding roomAfter given
   room-done need l = refl
-
-  pub room-length : (n need : ℕ) (l : List A) → length (roomAfter z n need l) ≡ length l
-  unfolding roomAfter given
-  room-length n need l = go (eqb n 0)
-    where
-      go : (b : Bool) → length (cond b (cleared z need l) l) ≡ length l
-      go true = cleared-length need l
-      go false = refl
-
-  pub room-again : (n need : ℕ) (l : List A) → roomAfter z n need (roomAfter z n need l) ≡ roomAfter z n need l
-  unfolding roomAfter given
-  room-again n need l = go (eqb n 0)
-    where
-      go : (b : Bool) → cond b (cleared z need (cond b (cleared z need l) l)) (cond b (cleared z need l) l) ≡ cond b (cleared z need l) l
-      go true = cleared-again need need l (omega arith)
-      go false = refl
-
--- the smaller of two is at most each
-pub smaller-le : (a b e : ℕ) → e ≡ cond (ltb a b) a b → (e ≤ a) × (e ≤ b)
-smaller-le a b e q = go (decLt a b)
-  where
-    go : Dec (a < b) → (e ≤ a) × (e ≤ b)
-    go (yes h) = let p : e ≡ a = q ∙ rw (lt-ltb a b h) in (omega arith, omega arith)
-    go (no h) = let p : e ≡ b = q ∙ rw (le-ltb a b (omega arith)) in (omega arith, omega arith)

@@ -1,14 +1,11 @@
 -- Weight: the digits that are not 0, row by row and place by place; plain sums of numbers.
 use mathlib.Core.Path.{_≡_, refl, sym, _∙_, ap, ap₂}
-use mathlib.Core.Bool.{true}
 use mathlib.Core.Logic.{_⊎_, inl, inr}
 use Prim.Native.Nat.{ℕ, zero, suc, _+_, _*_, _<_, _≤_}
 use native.Mathlib.Nat.{le-step, lt-suc-self, eq-or-lt-of-le, le-of-suc-le-suc, suc-mul, mul-one}
 use native.Mathlib.Numerals.{add-one}
 use native.Mathlib.Omega.{arith}
 use lib.IntN.{ℤ, pos, negsuc}
-use lib.Signed.{ltZ}
-use borrow.Author.Tests.{ltb-true}
 use Rattle.rules.specs.Group.{total}
 use Rattle.rules.specs.Loops.{nonzero, weight}
 
@@ -45,17 +42,6 @@ pub nonzero-zero : nonzero (pos 0) ≡ 0
 unfolding nonzero
 nonzero-zero = refl
 
-pub nonzero-above : (d : ℤ) → ltZ (pos 0) d ≡ true → nonzero d ≡ 1
-unfolding nonzero
-nonzero-above (pos zero) h = absurd (omega (arith, ltb-true 0 0 h))
-nonzero-above (pos (suc n)) h = refl
-nonzero-above (negsuc n) h = refl
-
-pub nonzero-below : (d : ℤ) → ltZ d (pos 0) ≡ true → nonzero d ≡ 1
-unfolding nonzero
-nonzero-below (pos n) h = absurd (omega (arith, ltb-true n 0 h))
-nonzero-below (negsuc n) h = refl
-
 nonzero-le : (d : ℤ) → nonzero d ≤ 1
 unfolding nonzero
 nonzero-le (pos zero) = omega arith
@@ -67,11 +53,6 @@ module _ (d : ℕ → ℕ → ℤ) where
   unfolding weight total
   weight-none n = refl
 
-  -- one row more
-  pub weight-row : (m n : ℕ) → weight d (m + 1) n ≡ weight d m n + total (λ j. nonzero (d m j)) n
-  unfolding weight
-  weight-row m n = total-more (λ i. total (λ j. nonzero (d i j)) n) m
-
   pub weight-empty : (m : ℕ) → weight d m 0 ≡ 0
   unfolding weight
   weight-empty m = total-zero (λ i. total (λ j. nonzero (d i j)) 0) m (λ i p. total-none (λ j. nonzero (d i j)))
@@ -82,15 +63,6 @@ module _ (d : ℕ → ℕ → ℤ) where
   weight-place m n =
       total-ext m (λ i p. total-more (λ j. nonzero (d i j)) n)
       ∙ total-add (λ i. total (λ j. nonzero (d i j)) n) (λ i. nonzero (d i n)) m
-
-  -- place by place
-  pub weight-swap : (m n : ℕ) → weight d m n ≡ total (λ j. total (λ i. nonzero (d i j)) m) n
-  unfolding total
-  weight-swap m zero = weight-empty m
-  weight-swap m (suc n) =
-      ap (weight d m) (sym (add-one n))
-      ∙ weight-place m n
-      ∙ ap (λ (x : ℕ). x + total (λ i. nonzero (d i n)) m) (weight-swap m n)
 
   pub weight-le : (m n : ℕ) → weight d m n ≤ m * n
   unfolding weight

@@ -13,7 +13,7 @@ use Rattle.rules.specs.Values.{valueOf, elementAt, pointAt, optionalAt, scalarA
 use Rattle.rules.specs.Group.{L}
 use Rattle.rules.specs.Numbers.{scalarBound}
 use Rattle.rules.specs.Windows.{over, anyOver}
-use Rattle.rules.specs.Lists.{notIn, beyondMost, scalarCount, pointCount, pairs, listsTooMany, bigAt, anyBig, flagAt, anyFlag, pointOver, anyPoint, isAbsent, absentBelow}
+use Rattle.rules.specs.Lists.{notIn, beyondMost, scalarCount, pointCount, pairs, listsTooMany, bigAt, anyBig, pointOver, anyPoint, isAbsent, absentBelow}
 use Rattle.laws.specs.Conditions.{or-split, any-below}
 
 pub whole : (unit n : ℕ) → notIn unit n ≡ false → n % unit ≡ 0
@@ -31,10 +31,6 @@ lists-few ss ps e = let o = or-split _ _ e in (few 1024 32 (length ss) (o .0), f
 pub small : (ss : List ℕ) (i : ℕ) → anyBig ss ≡ false → i < scalarCount ss → scalarAt ss i < scalarBound
 unfolding anyBig bigAt
 small ss i e h = leb-false scalarBound (scalarAt ss i) (any-below (bigAt ss) (scalarCount ss) i e h)
-
-pub flags-are : (fs : List ℕ) (i : ℕ) → anyFlag fs ≡ false → i < length fs → getD fs i 0 ≤ 1
-unfolding anyFlag flagAt
-flags-are fs i e h = ltb-false 1 (getD fs i 0) (any-below (flagAt fs) (length fs) i e h)
 
 pub under : (ps : List ℕ) (i : ℕ) → anyOver ps ≡ false → i < pointCount ps → pointAt ps i < L
 unfolding anyOver over

@@ -1,13 +1,12 @@
 -- A row or window put into its part: what the part holds then, and the list that it is a part of.
-use mathlib.Core.Path.{_≡_, refl, sym, ap, _∙_}
-use mathlib.Core.Bool.{Bool, true, false, cond}
+use mathlib.Core.Path.{_≡_, ap, _∙_}
 use mathlib.Core.List.{List, _++_}
 use Prim.Native.Nat.{ℕ, _+_, _-_, _≤_}
 use native.Mathlib.Omega.{arith}
 use lib.ListN.{length, take, drop, length-drop}
 use lib.Seq.{length-take-le}
 use lib.Dec.{eqb}
-use borrow.Author.Tests.{eq-eqb, ne-eqb, eqb-true}
+use borrow.Author.Tests.{eq-eqb, ne-eqb}
 use Rattle.rules.specs.Lists.{put, stored}
 
 module _ {A : Type 0} (x l : List A) where
@@ -18,14 +17,6 @@ module _ {A : Type 0} (x l : List A) where
   pub put-other : (length l ≡ length x → ⊥) → put x l ≡ l
   unfolding put
   put-other h = rw (ne-eqb (length l) (length x) h)
-
-  pub put-length : length (put x l) ≡ length l
-  unfolding put
-  put-length = go (eqb (length l) (length x)) refl
-    where
-      go : (b : Bool) → eqb (length l) (length x) ≡ b → length (cond b x l) ≡ length l
-      go true e = sym (eqb-true (length l) (length x) e)
-      go false e = refl
 
 -- x put into the part of l from a up to e, which has its length
 module _ {A : Type 0} (a e : ℕ) (x l : List A) (long : e ≡ a + length x) (fits : e ≤ length l) where

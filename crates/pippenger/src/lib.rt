@@ -5,7 +5,7 @@ ghost use lib.ListN.{length};
 ghost use Rattle.rules.specs.Values.{scalarAt};
 ghost use Rattle.rules.specs.Rows.{radixRow};
 ghost use Rattle.rules.specs.Lists.{pairs};
-ghost use Rattle.rules.specs.Engines.{After, bucketWidth, pickedBy, pippengerRefusal, pippenger};
+ghost use Rattle.rules.specs.Engines.{bucketWidth, pickedBy, pippengerRefusal, pippenger};
 ghost use Rattle.laws.specs.Laid.{laid};
 ghost use Rattle.pippenger.specs.Flat.{Fillable};
 use crate::walk::buckets_of;

@@ -13,8 +13,8 @@ use lib.Pow.{pow-mono}
 use mir.Syntax.{w8, w16, w64}
 use mir.Val.{SFits, toZ, ofZ}
 use mir.Facts.{toZ-pos, toZ-neg, toZ-ofZ, sfits-widen}
-use Rattle.rules.specs.Rows.{centred, sameDigit}
-use Rattle.laws.specs.Digits.{wide, carry, carry-low, carry-high, window-le, centred-window}
+use Rattle.rules.specs.Rows.{sameDigit}
+use Rattle.laws.specs.Digits.{wide, carry, carry-low, carry-high}
 use Rattle.laws.specs.RowsRead.{same-digit}
 use Rattle.scalar.specs.Nibbles.{Small}
 use Rattle.scalar.specs.Wrap.{wrapped}
@@ -71,10 +71,6 @@ module _ (w v : ℕ) (lo : 1 ≤ w) (hi : w ≤ 8) (le : v ≤ 2 ^ w) where
 
   pub wrapped-window : wrapped v (carry w v * 2 ^ w) ≡ subℕ v (carry w v * 2 ^ w)
   wrapped-window = wrapped-is v (carry w v * 2 ^ w) (omega (arith, near)) (near .1 .0) (near .1 .1)
-
--- so a NAF digit, narrowed with wrap, is the lowest w bits read as signed, at w = 8 too
-pub wrapped-centred : (w m c : ℕ) → 1 ≤ w → w ≤ 8 → c ≤ 1 → wrapped (m % 2 ^ w + c) (carry w (m % 2 ^ w + c) * 2 ^ w) ≡ centred w (m + c)
-wrapped-centred w m c lo hi bit = wrapped-window w (m % 2 ^ w + c) lo hi (window-le w m c bit) ∙ sym (centred-window w m c lo bit)
 
 -- ---- digits from 0 to 16
 

@@ -1,7 +1,7 @@
 //! The comparison's program.
 //!
 //!     differential run N SEED [PROGRAM]   compare, PROGRAM being the Rattle `replay`
-//!     differential fixed DIR              write DIR/stdin and DIR/stdout, a fixed list of cases and their lines
+//!     differential fixed DIR              write DIR/stdin and DIR/stdout, a fixed list of cases and their lines, and compare it with the Rust
 //!     differential answer                 the plain reading's lines for cases on standard input
 //!     differential smallest               the smallest inputs of docs/DIFFERENCES.md, run
 
@@ -37,7 +37,7 @@ fn main() -> ExitCode {
     if done { ExitCode::SUCCESS } else { ExitCode::FAILURE }
 }
 
-/// The ends and some random cases, always the same.
+/// The ends and some random cases, always the same, compared with the Rust and written with the lines due.
 fn fixed(folder: &str) -> bool {
     let r = &mut Random::new(5_0_0);
     let mut cases: Vec<Case> = generate::ends(r);
@@ -55,7 +55,7 @@ fn fixed(folder: &str) -> bool {
     std::fs::write(format!("{folder}/stdin"), &input).unwrap();
     std::fs::write(format!("{folder}/stdout"), &lines).unwrap();
     println!("{} cases, {} bytes in, {} bytes out", cases.len(), input.len(), lines.len());
-    true
+    run::agree(&cases)
 }
 
 fn answer() -> bool {

@@ -42,25 +42,9 @@ struct Run {
     differ: u64,
 }
 
-/// Compares at least n cases; true where none differ.
+/// Compares n cases; true where none differ.
 pub fn run(n: usize, seed: u64, program: Option<String>) -> bool {
-    std::panic::set_hook(Box::new(|_| {}));
-    let mut run = Run {
-        program,
-        sides: sides(),
-        sodium: Sodium::find(),
-        calls: BTreeMap::new(),
-        names: BTreeMap::new(),
-        multi: 0,
-        seen: 0,
-        differ: 0,
-    };
-    if !curve25519_dalek::probe::sound() {
-        run.say("our curve files against published numbers".into());
-    }
-    if !reading::sheet::holds() {
-        run.say("the plain reading against the bench sheet of document 01".into());
-    }
+    let mut run = Run::new(program);
     let r = &mut Random::new(seed);
     let mut cases: Vec<Case> = generate::ends(r);
     cases.truncate(n);
@@ -84,7 +68,36 @@ pub fn run(n: usize, seed: u64, program: Option<String>) -> bool {
     run.differ == 0
 }
 
+/// Compares the cases of a list without the library; true where none differ.
+pub fn agree(cases: &[Case]) -> bool {
+    let mut run = Run::new(None);
+    run.chunk(cases);
+    run.report(cases.len());
+    run.differ == 0
+}
+
 impl Run {
+    fn new(program: Option<String>) -> Run {
+        std::panic::set_hook(Box::new(|_| {}));
+        let mut run = Run {
+            program,
+            sides: sides(),
+            sodium: Sodium::find(),
+            calls: BTreeMap::new(),
+            names: BTreeMap::new(),
+            multi: 0,
+            seen: 0,
+            differ: 0,
+        };
+        if !curve25519_dalek::probe::sound() {
+            run.say("our curve files against published numbers".into());
+        }
+        if !reading::sheet::holds() {
+            run.say("the plain reading against the bench sheet of document 01".into());
+        }
+        run
+    }
+
     fn say(&mut self, what: String) {
         self.differ += 1;
         if self.differ <= 20 {
@@ -226,7 +239,7 @@ impl Run {
             sum(|c| c.sodium)
         );
         if self.program.is_none() {
-            println!("replay is not built: only the plain reading and the Rust were compared");
+            println!("without the library: only the plain reading and the Rust were compared");
         }
         println!("{n} compared, {} differ", self.differ);
     }

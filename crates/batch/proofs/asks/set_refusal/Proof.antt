@@ -1,5 +1,5 @@
 -- The tests in their order, each by what it answered.
-use mathlib.Core.Path.{_≡_, sym, _∙_}
+use mathlib.Core.Path.{sym, _∙_}
 use borrow.Author.Tests.{eq-eqb, ne-eqb, le-leb, lt-leb}
 use Rattle.rules.specs.Rows.{notLong}
 use Rattle.rules.specs.Numbers.{first}

@@ -1,5 +1,5 @@
 -- The tests in their order, each by what it answered.
-use mathlib.Core.Path.{_≡_, sym, _∙_}
+use mathlib.Core.Path.{sym, _∙_}
 use Rattle.rules.specs.Numbers.{first}
 use Rattle.rules.specs.Batch.{totalRefusal}
 use borrow.Author.Needs.{needs}
