@@ -68,7 +68,6 @@ module _ (f : ℕ → Bool) where
 
 -- the first condition that holds
 module _ (b : Bool) (n : ℕ) (r : List (Bool × ℕ)) where
-
   pub first-next : (k : ℕ) → b ≡ false → k ≡ first r → k ≡ first ((b, n) ∷ r)
   unfolding first
   first-next k e f = rw e f

@@ -58,7 +58,6 @@ module _ {A : Type 0} {f g : ℕ → A → A} where
   down-ext (suc n) q h = ap (down f n) (h n (lt-suc-self n) q) ∙ down-ext n (g n q) (λ j p. h j (le-step p))
 
 module _ {A : Type 0} (o : Ops A) where
-
   pub doubled-more : (w : ℕ) (q : A) → doubled o (w + 1) q ≡ o .op (doubled o w q) (doubled o w q)
   unfolding doubled
   doubled-more w q = ap (λ (k : ℕ). doubled o k q) (add-one w)
@@ -84,7 +83,6 @@ module _ {A C : Type 0} (In : A → Type 0) (φ : A → C) (f : ℕ → A → A)
       (r .0, r .1 ∙ ap (down g n) (s .1))
 
 module _ (f : ℕ → Bool) where
-
   -- a search from place n down: found there, or on to the next
   pub highest-found : (n : ℕ) → f n ≡ true → highest f (n + 1) ≡ n
   unfolding highest

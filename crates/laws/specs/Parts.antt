@@ -104,7 +104,6 @@ module _ {A : Type 0} (n : ℕ) where
       ∙ ap (λ (j : ℕ). take j l) (sym (mul-suc n k))
 
 module _ {A : Type 0} where
-
   -- one part more
   pub flat-more : (f : ℕ → List A) (k : ℕ) → flat f (k + 1) ≡ flat f k ++ f k
   unfolding flat

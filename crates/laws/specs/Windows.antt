@@ -12,7 +12,6 @@ use Rattle.laws.specs.Group.{Laws}
 use Rattle.laws.specs.Multiples.{times-one, times-two, times-add}
 
 module _ {A : Type 0} (o : Ops A) where
-
   -- one entry more
   pub stepped-more : (s p : A) (k : ℕ) → stepped o s p (k + 1) ≡ o .op (stepped o s p k) s
   unfolding stepped
