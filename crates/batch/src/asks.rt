@@ -61,7 +61,7 @@ pub(crate) fn set_refusal(digits: usize, windows: usize, slot: usize, scalar: &[
     if scalar.len() != 32 {
         return 1;
     }
-    if lent::too_many(digits, 256, 1024) {
+    if lent::too_many(digits, 256, lent::MOST) {
         return 2;
     }
     if digits / 256 <= slot {
@@ -80,7 +80,7 @@ pub(crate) fn total_refusal(digits: &[i8], windows: &[u64]) -> u8
     if memory_not_whole(digits.len(), windows.len()) {
         return 1;
     }
-    if lent::too_many(digits.len(), 256, 1024) {
+    if lent::too_many(digits.len(), 256, lent::MOST) {
         return 2;
     }
     if lent::any_wild(digits) {

@@ -89,10 +89,12 @@ module _ (ds : List ℤ) (ws : List ℕ) (ds′ : List ℤ) (ts : List ℕ) (p m
   abbrev to : Element → ℕ → ℕ → Walk
   to e a n = record { element = e; additions = a; doublings = n }
 
-  pub walking-end : j ≡ 0 → to (r .element) (r .additions) n ≡ walked ds ws ds′ ts p
+  -- and a doubling for each place
+  pub walking-end : j ≡ 0 → (d : ℕ) → d + j ≡ n → to (r .element) (r .additions) d ≡ walked ds ws ds′ ts p
   unfolding walked windowedRows
-  walking-end e =
-      ap₂ (λ (x : Element) (a : ℕ). to x a n) (sym element) additions
+  walking-end e d f =
+      ap (to (r .element) (r .additions)) (omega arith)
+      ∙ ap₂ (λ (x : Element) (a : ℕ). to x a n) (sym element) additions
       ∙ ap (λ (m : ℕ). all m m′ n) rows
       ∙ ap (λ (m′ : ℕ). all (windowedRows 32 ds ws) m′ n) rows′
       ∙ ap (λ (n : ℕ). all (windowedRows 32 ds ws) (windowedRows 256 ds′ ts) n) places

@@ -91,6 +91,7 @@ pub fn walk(
         element: residue::identity(),
         additions: 0,
     };
+    let mut doublings: u64 = 0;
     let mut j = n;
     while 0 < j {
         j -= 1;
@@ -99,6 +100,7 @@ pub fn walk(
             element: residue::twice(e),
             additions: r.additions,
         };
+        doublings += 1;
         let u = column(t, digits, windows, 32, m, j);
         r = column(u, static_digits, tables, 256, s, j);
     }
@@ -106,7 +108,7 @@ pub fn walk(
     Walk {
         element,
         additions: r.additions,
-        doublings: n as u64,
+        doublings,
     }
 }
 

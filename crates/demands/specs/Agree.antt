@@ -129,8 +129,12 @@ module _ (l : Pairs) (r : Ready l) where
         no-entry : anyOver [] ≡ false
         no-entry = unfold anyOver any in refl
 
-    pub by-precomputed-straus : 256 * slots l ≤ length ds → 32 * slots l ≤ length ls → Answers (mixed [] [] (l .scalars) (l .points) (l .flags) ds ls .result) (sumOf l)
+    -- whatever tables are lent
+    pub by-dynamic-pairs : (ts : List ℕ) → mixedRefusal ts [] (l .scalars) (l .points) (l .flags) (length ds) (length ls) ≡ 0 → Answers (mixed ts [] (l .scalars) (l .points) (l .flags) ds ls .result) (sumOf l)
     unfolding mixed entrySum total
-    by-precomputed-straus hd hl =
-        let a = answers _ _ _ _ (taken-all hd hl) in
+    by-dynamic-pairs ts passed =
+        let a = answers _ _ _ _ passed in
         record { number-is = a .number-is; value-is = a .value-is ∙ ap (λ (v : ℕ). places limb 4 (v % L)) (add-zero (products (l .scalars) (l .points) (slots l))) }
+
+    pub by-precomputed-straus : 256 * slots l ≤ length ds → 32 * slots l ≤ length ls → Answers (mixed [] [] (l .scalars) (l .points) (l .flags) ds ls .result) (sumOf l)
+    by-precomputed-straus hd hl = by-dynamic-pairs [] (taken-all hd hl)

@@ -4,7 +4,9 @@ pub mod Ready
 pub mod Fresh
 pub mod Agree
 pub mod Total
+pub mod After
 pub mod Refusals
+pub mod Group
 pub mod Rows
 pub mod Sums
 pub mod Sheet

@@ -15,13 +15,13 @@ use Rattle.rules.specs.declared.Value.{Value}
 use Rattle.rules.specs.declared.Counted.{Counted}
 use Rattle.rules.specs.declared.Sum.{Sum}
 use Rattle.rules.specs.Values.{places, elementOf}
-use Rattle.rules.specs.Numbers.{first, given, valued, counted, summed, nafAnswer, radixAnswer, bytesAnswer, window8Answer, window64Answer, roomAfter}
+use Rattle.rules.specs.Numbers.{first, given, valued, counted, summed, nafAnswer, radixAnswer, bytesAnswer, window8Answer, window64Answer, roomAfter, condition}
 use Rattle.rules.specs.Rows.{recodeConditions, recodeRefusal, nafOf, radixOf, readNafConditions, readNafRefusal, readNaf, readRadixConditions, readRadixRefusal, readRadix}
 use Rattle.rules.specs.Windows.{pointConditions, pointRefusal, lookupTable, nafLookupTable5, nafLookupTable8, lookupConditions, lookupRefusal, beyond, beyondOdd, select, selectNaf}
 use Rattle.rules.specs.Calls.{pairConditions, pairRefusal, groupAdd, groupSubtract, groupNegate, groupDouble}
 use Rattle.rules.specs.Engines.{After, AfterNew, radixStrausConditions, radixStrausRefusal, radixStraus, nafStrausConditions, nafStrausRefusal, nafStraus, pippengerConditions, pippengerRefusal, pippenger, newConditions, newRefusal, newTables, mixedConditions, mixedRefusal, mixed, singleConditions, singleRefusal, single, doubleConditions, doubleRefusal, double}
 use Rattle.rules.specs.Batch.{Memory, AfterEdit, prepareConditions, prepareRefusal, prepare, setConditions, setRefusal, set, clear, totalConditions, totalRefusal, totalOf}
-use Rattle.laws.specs.Answers.{Rising, condition, first-answers, first-done}
+use Rattle.laws.specs.Answers.{Rising, first-answers, first-done}
 use Rattle.laws.specs.Conditions.{given-refused}
 
 -- a call with these conditions answers this number; left is what it leaves, zeros what it leaves refused
@@ -196,3 +196,15 @@ pub clear-refuses : (m : Memory) (slot : ℕ)
     → Refuses (setConditions (length (m .digits)) (length (m .windows)) slot (replicate 32 0) (Present (elementOf 0))) (clear m slot .result .number) (clear m slot) (record { result = noCounts (clear m slot .result .number); memory = m })
 unfolding clear
 clear-refuses m slot = set-refuses m slot (replicate 32 0) (Present (elementOf 0))
+
+-- an edit never answers 10
+pub set-never-10 : (m : Memory) (slot : ℕ) (s : List ℕ) (p : OptionalPoint) → set m slot s p .result .number ≡ 10 → ⊥
+unfolding condition
+set-never-10 m slot s p h =
+    let c = set-refuses m slot s p .answers 10 (λ z. omega arith) .0 h .0 in
+    let w : _≡_ {A = ℕ} 0 1 = cc in
+    omega arith
+
+pub clear-never-10 : (m : Memory) (slot : ℕ) → clear m slot .result .number ≡ 10 → ⊥
+unfolding clear
+clear-never-10 m slot = set-never-10 m slot (replicate 32 0) (Present (elementOf 0))

@@ -8,12 +8,11 @@ use native.Mathlib.Omega.{arith}
 use lib.ListN.{length}
 use lib.IntN.{ℤ}
 use borrow.Author.Tests.{ltb-false, leb-false}
-use Rattle.rules.specs.Values.{number}
+use Rattle.rules.specs.Values.{number, Below}
 use Rattle.rules.specs.Numbers.{rowBound, badDigit, nafAnswer, radixAnswer}
 use Rattle.rules.specs.Rows.{IsNaf, IsRadix, nafRow, radixRow, widthOff, rowless, recodeRefusal, nafOf, radixOf, readNaf, readRadix}
 use Rattle.laws.specs.Conditions.{or-split, first-none, given-done}
 use Rattle.laws.specs.RowsRule.{naf-obeys, naf-only, radix-obeys, radix-only}
-use Rattle.scalar.proofs.Base.{Below}
 use Rattle.scalar.proofs.ReadBack as back
 
 -- a recoding that is not refused: the width is within its bounds, the scalar below the bound of rows

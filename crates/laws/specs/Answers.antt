@@ -8,17 +8,12 @@ use native.Mathlib.Decide.{decLt, ℕ-discrete}
 use native.Mathlib.Omega.{arith}
 use lib.Dec.{eqb}
 use borrow.Author.Tests.{eq-eqb, ne-eqb, eqb-true}
-use Rattle.rules.specs.Numbers.{first}
+use Rattle.rules.specs.Numbers.{first, condition}
 
 -- the numbers of a list of conditions rise, from above k on
 abbrev pub Rising : ℕ → List (Bool × ℕ) → Type 0
 Rising k [] = Unit {0}
 Rising k ((b, n) ∷ r) = (k < n) × Rising n r
-
--- condition n of the list, false where it has none
-unfoldable pub condition : List (Bool × ℕ) → ℕ → Bool
-condition [] n = false
-condition ((b, k) ∷ r) n = cond (eqb k n) b (condition r n)
 
 clash : {X : Type 0} {b : Bool} → b ≡ true → b ≡ false → X
 clash {X} {b} p q = let w : _≡_ {A = ℕ} 0 1 = cc in absurd (omega arith)

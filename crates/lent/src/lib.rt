@@ -8,6 +8,15 @@ use rules::OptionalPoint;
 
 pub mod room;
 
+// 2: the most scalars, points or slots.
+pub const MOST: usize = 1024;
+
+// 2: the most static points.
+pub const MOST_STATIC: usize = 64;
+
+// 6: the highest byte of 2^255 - 1.
+const TOP: u8 = 127;
+
 // 1: whether a list is not in units.
 pub fn not_whole(len: usize, unit: usize) -> bool
     ensures { λ r. ⌜ r ≡ notIn unit len ⌝ }
@@ -52,10 +61,10 @@ pub fn lists_not_whole(scalars: &[u8], points: &[u64], flags: &[u8]) -> bool
 pub fn lists_too_many(scalars: &[u8], points: &[u64]) -> bool
     ensures { λ r. ⌜ r ≡ listsTooMany (now (scalars .entry)) (now (points .entry)) ⌝ }
 {
-    if too_many(scalars.len(), 32, 1024) {
+    if too_many(scalars.len(), 32, MOST) {
         return true;
     }
-    too_many(points.len(), 4, 1024)
+    too_many(points.len(), 4, MOST)
 }
 
 // 6: whether a scalar is at or above 2^255.
@@ -65,7 +74,7 @@ pub fn any_big(scalars: &[u8]) -> bool
     let n = scalars.len() / 32;
     let mut i: usize = 0;
     while i < n {
-        if 127 < scalars[32 * i + 31] {
+        if TOP < scalars[32 * i + 31] {
             return true;
         }
         i += 1;

@@ -78,18 +78,18 @@ fn sum_buckets(buckets: &[u64], n: usize) -> Walk
     requires { ⌜ (1 < n) × (4 * n ≤ length (now buckets)) ⌝ }
     ensures { λ r. ⌜ (r .element ≡ bucketSum elements (elementAt (now (buckets .entry))) (n - 1)) × ((r .additions ≡ 2 * (n - 1)) × (r .doublings ≡ 0)) ⌝ }
 {
-    let mut running = load(buckets, n - 1);
-    let mut sum = running;
+    let mut buckets_intermediate_sum = load(buckets, n - 1);
+    let mut buckets_sum = buckets_intermediate_sum;
     let mut additions: u64 = 0;
     let mut i = n - 1;
     while 0 < i {
         i -= 1;
-        running = residue::plus(running, load(buckets, i));
-        sum = residue::plus(sum, running);
+        buckets_intermediate_sum = residue::plus(buckets_intermediate_sum, load(buckets, i));
+        buckets_sum = residue::plus(buckets_sum, buckets_intermediate_sum);
         additions += 2;
     }
     Walk {
-        element: sum,
+        element: buckets_sum,
         additions,
         doublings: 0,
     }

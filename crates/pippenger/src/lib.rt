@@ -8,7 +8,7 @@ ghost use Rattle.rules.specs.Lists.{pairs};
 ghost use Rattle.rules.specs.Engines.{bucketWidth, pickedBy, pippengerRefusal, pippenger};
 ghost use Rattle.laws.specs.Laid.{laid};
 ghost use Rattle.pippenger.specs.Flat.{Fillable};
-use crate::walk::buckets_of;
+use crate::walk::buckets_count;
 use crate::walk::walk;
 use rules::Sum;
 
@@ -56,7 +56,7 @@ fn refusal(scalars: &[u8], points: &[u64], flags: &[u8], digits: usize, buckets:
     if digits < 64 * m {
         return 5;
     }
-    if buckets < 4 * buckets_of(width(picked_by(scalars, points))) {
+    if buckets < 4 * buckets_count(width(picked_by(scalars, points))) {
         return 5;
     }
     if lent::any_big(scalars) {
@@ -107,7 +107,7 @@ pub fn optional_multiscalar_mul(
     fill(scalars, m, w, &mut *digits);
     let q = walk(digits, points, m, w, &mut *buckets);
     lent::room::clear_digits(&mut *digits, 64 * m);
-    lent::room::clear_limbs(&mut *buckets, 4 * buckets_of(w));
+    lent::room::clear_limbs(&mut *buckets, 4 * buckets_count(w));
     let e = q.element;
     answer::sum(e, q.additions, q.doublings)
 }

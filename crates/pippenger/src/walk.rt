@@ -8,7 +8,7 @@ use super::column::column;
 use rules::Walk;
 
 // The places that digits of this width use.
-fn places(w: usize) -> usize
+fn digits_count(w: usize) -> usize
     requires { ⌜ (6 ≤ w) × (w ≤ 8) ⌝ }
     ensures { λ r. ⌜ r ≡ usedPlaces w ⌝ }
 {
@@ -16,7 +16,7 @@ fn places(w: usize) -> usize
 }
 
 // The buckets that digits of this width need, one for each absolute value but 0: 128 at w = 8, half as many for each bit less.
-pub(crate) fn buckets_of(w: usize) -> usize
+pub(crate) fn buckets_count(w: usize) -> usize
     requires { ⌜ (6 ≤ w) × (w ≤ 8) ⌝ }
     ensures { λ r. ⌜ r ≡ 2 ^ (w - 1) ⌝ }
 {
@@ -28,11 +28,11 @@ pub(crate) fn walk(digits: &[i8], points: &[u64], m: usize, w: usize, buckets: &
     requires { ⌜ Walkable (now digits) (now points) m w (length (now buckets)) ⌝ }
     ensures { λ r. ⌜ Walked (now (digits .entry)) (now (points .entry)) m w (now (buckets .entry)) (now (buckets .exit)) r ⌝ }
 {
-    let n = buckets_of(w);
-    let c = places(w);
-    let hi = column(digits, points, m, c - 1, n, &mut *buckets);
-    let mut q = hi.element;
-    let mut additions = hi.additions;
+    let n = buckets_count(w);
+    let c = digits_count(w);
+    let hi_column = column(digits, points, m, c - 1, n, &mut *buckets);
+    let mut q = hi_column.element;
+    let mut additions = hi_column.additions;
     let mut doublings: u64 = 0;
     let mut j = c - 1;
     while 0 < j {

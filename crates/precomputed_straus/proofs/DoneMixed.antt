@@ -11,12 +11,12 @@ use lib.Dec.{lit<, eqb, ltb}
 use borrow.Author.Tests.{eqb-true, ltb-false, not-false}
 use Rattle.rules.specs.declared.Sum.{Sum}
 use Rattle.rules.specs.declared.Walk.{Walk}
-use Rattle.rules.specs.Numbers.{cleared, roomAfter, summed}
+use Rattle.rules.specs.Numbers.{cleared, roomAfter, summed, condition}
 use Rattle.rules.specs.Lists.{scalarCount, pointCount, shorter, otherThan, anyBig, anyFlag, anyPoint, badLists}
 use Rattle.rules.specs.Engines.{After, mixedConditions, mixedRefusal, mixed}
 use Rattle.rules.specs.Helpers.{sumDone}
 use Rattle.laws.specs.Conditions.{or-split}
-use Rattle.laws.specs.Answers.{Rising, condition, first-done}
+use Rattle.laws.specs.Answers.{Rising, first-done}
 use Rattle.laws.specs.Room.{cleared-rest, room-refused, room-done}
 use Rattle.answer.proofs.Answers.{refused-sum, done-sum}
 use Rattle.lent.proofs.Passed.{small, there-under}

@@ -9,13 +9,13 @@ use borrow.Author.Tests.{eqb-true, not-false}
 use Rattle.rules.specs.declared.Counts.{Counts}
 use Rattle.rules.specs.declared.Counted.{Counted}
 use Rattle.rules.specs.Values.{limb}
-use Rattle.rules.specs.Numbers.{given, counted}
+use Rattle.rules.specs.Numbers.{given, counted, condition}
 use Rattle.rules.specs.Windows.{anyOver}
 use Rattle.rules.specs.Lists.{pointCount, otherThan}
 use Rattle.rules.specs.Engines.{newConditions, newRefusal, AfterNew, newTables}
 use Rattle.rules.specs.Helpers.{Made, countedDone}
 use Rattle.laws.specs.Conditions.{given-refused}
-use Rattle.laws.specs.Answers.{condition, first-done}
+use Rattle.laws.specs.Answers.{first-done}
 use Rattle.answer.proofs.Answers.{refused-counted, done-counted}
 use Rattle.lent.proofs.Passed.{few, under}
 use Rattle.columns.proofs.Built.{filled-windows}

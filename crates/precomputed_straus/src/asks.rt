@@ -13,7 +13,7 @@ pub(crate) fn new_refusal(points: &[u64], tables: usize) -> u8
     if lent::not_whole(points.len(), 4) {
         return 1;
     }
-    if lent::too_many(points.len(), 4, 64) {
+    if lent::too_many(points.len(), 4, lent::MOST_STATIC) {
         return 2;
     }
     if tables != 256 * (points.len() / 4) {
@@ -53,10 +53,10 @@ pub(crate) fn mixed_too_many(
 ) -> bool
     ensures { λ r. ⌜ r ≡ (beyondMost mostStatic 256 (length (now (tables .entry))) || beyondMost most 32 (length (now («static_scalars» .entry))) || listsTooMany (now (scalars .entry)) (now (points .entry))) ⌝ }
 {
-    if lent::too_many(tables.len(), 256, 64) {
+    if lent::too_many(tables.len(), 256, lent::MOST_STATIC) {
         return true;
     }
-    if lent::too_many(static_scalars.len(), 32, 1024) {
+    if lent::too_many(static_scalars.len(), 32, lent::MOST) {
         return true;
     }
     lent::lists_too_many(scalars, points)

@@ -3,7 +3,7 @@ use crate::input;
 use crate::input::State;
 
 // How many elements each list has, in the lists' order, and what follows.
-pub struct Lengths {
+pub(crate) struct Lengths {
     pub a: usize,
     pub b: usize,
     pub c: usize,
@@ -11,7 +11,12 @@ pub struct Lengths {
 }
 
 // Two lists of limbs.
-pub fn elements(input: &mut [u8], first: &mut [u64], second: &mut [u64], s: State) -> Lengths {
+pub(crate) fn elements(
+    input: &mut [u8],
+    first: &mut [u64],
+    second: &mut [u64],
+    s: State,
+) -> Lengths {
     let s = input::limbs(input, first, s);
     let a = s.number as usize;
     let s = input::limbs(input, second, s);
@@ -25,7 +30,7 @@ pub fn elements(input: &mut [u8], first: &mut [u64], second: &mut [u64], s: Stat
 }
 
 // Limbs and bytes: a point and a scalar, or static tables and their scalars.
-pub fn statics(input: &mut [u8], limbs: &mut [u64], bytes: &mut [u8], s: State) -> Lengths {
+pub(crate) fn statics(input: &mut [u8], limbs: &mut [u64], bytes: &mut [u8], s: State) -> Lengths {
     let s = input::limbs(input, limbs, s);
     let a = s.number as usize;
     let s = input::bytes(input, bytes, s);
@@ -39,7 +44,7 @@ pub fn statics(input: &mut [u8], limbs: &mut [u64], bytes: &mut [u8], s: State) 
 }
 
 // Bytes and limbs: scalars and points.
-pub fn plain(input: &mut [u8], scalars: &mut [u8], points: &mut [u64], s: State) -> Lengths {
+pub(crate) fn plain(input: &mut [u8], scalars: &mut [u8], points: &mut [u64], s: State) -> Lengths {
     let s = input::bytes(input, scalars, s);
     let a = s.number as usize;
     let s = input::limbs(input, points, s);
@@ -53,7 +58,7 @@ pub fn plain(input: &mut [u8], scalars: &mut [u8], points: &mut [u64], s: State)
 }
 
 // Bytes, limbs and bytes: scalars, points and flags, or a scalar on either side of a point.
-pub fn pairs(
+pub(crate) fn pairs(
     input: &mut [u8],
     scalars: &mut [u8],
     points: &mut [u64],
@@ -72,7 +77,7 @@ pub fn pairs(
 }
 
 // Digits and limbs: working room, or a prepared batch.
-pub fn room(input: &mut [u8], digits: &mut [i8], limbs: &mut [u64], s: State) -> Lengths {
+pub(crate) fn room(input: &mut [u8], digits: &mut [i8], limbs: &mut [u64], s: State) -> Lengths {
     let s = input::digits(input, digits, s);
     let a = s.number as usize;
     let s = input::limbs(input, limbs, s);
@@ -86,13 +91,13 @@ pub fn room(input: &mut [u8], digits: &mut [i8], limbs: &mut [u64], s: State) ->
 }
 
 // The lengths of pairs, and those of the room behind them.
-pub struct Both {
+pub(crate) struct Both {
     pub pairs: Lengths,
     pub room: Lengths,
 }
 
 // Scalars and points, and then the room.
-pub fn plain_and_room(
+pub(crate) fn plain_and_room(
     input: &mut [u8],
     scalars: &mut [u8],
     points: &mut [u64],
@@ -106,7 +111,7 @@ pub fn plain_and_room(
 }
 
 // Scalars, points and flags, and then the room.
-pub fn pairs_and_room(
+pub(crate) fn pairs_and_room(
     input: &mut [u8],
     scalars: &mut [u8],
     points: &mut [u64],
@@ -121,13 +126,13 @@ pub fn pairs_and_room(
 }
 
 // The lengths of the static lists, and those of pairs and room behind them.
-pub struct AllLengths {
+pub(crate) struct AllLengths {
     pub statics: Lengths,
     pub both: Both,
 }
 
 // Static tables and scalars, and then dynamic pairs and the room.
-pub fn mixed(
+pub(crate) fn mixed(
     input: &mut [u8],
     tables: &mut [u64],
     statics: &mut [u8],
@@ -147,7 +152,7 @@ pub fn mixed(
 }
 
 // A prepared batch and the number of a slot.
-pub fn slot(input: &mut [u8], digits: &mut [i8], windows: &mut [u64], s: State) -> Lengths {
+pub(crate) fn slot(input: &mut [u8], digits: &mut [i8], windows: &mut [u64], s: State) -> Lengths {
     let n = room(input, digits, windows, s);
     let s = input::number(input, 64, n.next);
     let c = s.number as usize;

@@ -1,5 +1,6 @@
 // The calls by their codes: a call's arguments are read, it is run, and its line is put out.
 mod batches;
+mod edits;
 mod engines;
 mod group;
 mod rows;
@@ -9,7 +10,7 @@ mod windows;
 use crate::input::State;
 
 // The case with this code, its arguments to be read.
-pub fn answer(
+pub(crate) fn answer(
     code: u64,
     input: &mut [u8],
     out: &mut [u8],

@@ -4,7 +4,7 @@ use crate::output::byte_of;
 use crate::output::limb_byte;
 
 // The checksum's two running sums, modulo 4294967291.
-pub struct Sums {
+pub(crate) struct Sums {
     pub s: u64,
     pub t: u64,
 }
@@ -34,7 +34,7 @@ fn checksum(c: Sums) -> u64
 }
 
 // The checksum of a list of digits, a byte a digit.
-pub fn of_digits(list: &[i8]) -> u64 {
+pub(crate) fn of_digits(list: &[i8]) -> u64 {
     let mut c = none();
     let mut i: usize = 0;
     while i < list.len() {
@@ -59,7 +59,7 @@ fn mixed_limb(c: Sums, limb: u64) -> Sums
 }
 
 // The checksum of a list of limbs, eight bytes a limb.
-pub fn of_limbs(list: &[u64]) -> u64 {
+pub(crate) fn of_limbs(list: &[u64]) -> u64 {
     let mut c = none();
     let mut i: usize = 0;
     while i < list.len() {

@@ -1,8 +1,9 @@
 // The cases on standard input: bytes through a buffer, numbers, and lists into lent memory.
 ghost use Prim.Native.Nat.{_≤_};
+use libc::STDIN_FILENO;
 
 // Where reader and writer stand: the next byte of the input's buffer and how many are in it, the number read last, how many bytes wait in the output's buffer, and whether the case is malformed.
-pub struct State {
+pub(crate) struct State {
     pub at: usize,
     pub end: usize,
     pub number: u64,
@@ -11,14 +12,14 @@ pub struct State {
 }
 
 // What stands before a list's elements: their number, whether one is repeated, and what follows.
-pub struct Elements {
+pub(crate) struct Elements {
     pub n: usize,
     pub same: bool,
     pub next: State,
 }
 
 // Nothing read, nothing written.
-pub fn start() -> State {
+pub(crate) fn start() -> State {
     State {
         at: 0,
         end: 0,
@@ -29,7 +30,7 @@ pub fn start() -> State {
 }
 
 // The same place with another number in hand.
-pub fn with_number(s: State, number: u64) -> State {
+pub(crate) fn with_number(s: State, number: u64) -> State {
     State {
         at: s.at,
         end: s.end,
@@ -40,7 +41,7 @@ pub fn with_number(s: State, number: u64) -> State {
 }
 
 // The same place with other bytes waiting to be written.
-pub fn with_put(s: State, put: usize) -> State {
+pub(crate) fn with_put(s: State, put: usize) -> State {
     State {
         at: s.at,
         end: s.end,
@@ -51,7 +52,7 @@ pub fn with_put(s: State, put: usize) -> State {
 }
 
 // The case is malformed.
-pub fn malformed(s: State) -> State {
+pub(crate) fn malformed(s: State) -> State {
     State {
         at: s.at,
         end: s.end,
@@ -68,7 +69,7 @@ fn wide(byte: u8) -> u64 {
 
 // The buffer filled again, and its first byte; malformed where the input has ended.
 fn refill(input: &mut [u8], s: State) -> State {
-    let end = io::read_full(0, input);
+    let end = io::read_full(STDIN_FILENO, input);
     if end == 0 {
         return malformed(s);
     }
@@ -83,7 +84,7 @@ fn refill(input: &mut [u8], s: State) -> State {
 }
 
 // The next byte.
-pub fn next(input: &mut [u8], s: State) -> State {
+pub(crate) fn next(input: &mut [u8], s: State) -> State {
     if s.bad {
         return s;
     }
@@ -106,7 +107,7 @@ pub fn next(input: &mut [u8], s: State) -> State {
 }
 
 // The next number of so many bits, lowest byte first.
-pub fn number(input: &mut [u8], bits: usize, s: State) -> State
+pub(crate) fn number(input: &mut [u8], bits: usize, s: State) -> State
     requires { ⌜ bits ≤ 64 ⌝ }
 {
     let mut s = s;
@@ -161,7 +162,7 @@ fn limb_if(input: &mut [u8], wanted: bool, s: State) -> State {
 }
 
 // A list of bytes into the front of lent memory; the number in hand is how many.
-pub fn bytes(input: &mut [u8], list: &mut [u8], s: State) -> State {
+pub(crate) fn bytes(input: &mut [u8], list: &mut [u8], s: State) -> State {
     let h = head(input, list.len(), s);
     let n = h.n;
     let same = h.same;
@@ -176,7 +177,7 @@ pub fn bytes(input: &mut [u8], list: &mut [u8], s: State) -> State {
 }
 
 // A byte as a digit, two's complement.
-pub fn digit_of(byte: u64) -> i8 {
+pub(crate) fn digit_of(byte: u64) -> i8 {
     let b = byte % 256;
     if b < 128 {
         b as i8
@@ -186,7 +187,7 @@ pub fn digit_of(byte: u64) -> i8 {
 }
 
 // A list of digits likewise.
-pub fn digits(input: &mut [u8], list: &mut [i8], s: State) -> State {
+pub(crate) fn digits(input: &mut [u8], list: &mut [i8], s: State) -> State {
     let h = head(input, list.len(), s);
     let n = h.n;
     let same = h.same;
@@ -201,7 +202,7 @@ pub fn digits(input: &mut [u8], list: &mut [i8], s: State) -> State {
 }
 
 // A list of limbs likewise.
-pub fn limbs(input: &mut [u8], list: &mut [u64], s: State) -> State {
+pub(crate) fn limbs(input: &mut [u8], list: &mut [u64], s: State) -> State {
     let h = head(input, list.len(), s);
     let n = h.n;
     let same = h.same;

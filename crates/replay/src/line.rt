@@ -39,7 +39,7 @@ fn counts(out: &mut [u8], at: usize, additions: u64, doublings: u64) -> usize {
 }
 
 // An answer that carries one element.
-pub fn value(out: &mut [u8], at: usize, r: Value) -> usize {
+pub(crate) fn value(out: &mut [u8], at: usize, r: Value) -> usize {
     let at = number(out, at, r.number);
     let l = r.value;
     let at = hex_limbs(out, at, &l);
@@ -47,14 +47,14 @@ pub fn value(out: &mut [u8], at: usize, r: Value) -> usize {
 }
 
 // An answer that carries counts alone.
-pub fn counted(out: &mut [u8], at: usize, r: Counted) -> usize {
+pub(crate) fn counted(out: &mut [u8], at: usize, r: Counted) -> usize {
     let at = number(out, at, r.number);
     let at = put(out, at, 45);
     counts(out, at, r.additions, r.doublings)
 }
 
 // An answer that carries a sum, and what it took.
-pub fn sum(out: &mut [u8], at: usize, r: Sum) -> usize {
+pub(crate) fn sum(out: &mut [u8], at: usize, r: Sum) -> usize {
     let at = number(out, at, r.number);
     let l = r.value;
     let at = hex_limbs(out, at, &l);
@@ -62,7 +62,7 @@ pub fn sum(out: &mut [u8], at: usize, r: Sum) -> usize {
 }
 
 // An answer that carries a NAF row.
-pub fn naf_row(out: &mut [u8], at: usize, r: NafRow) -> usize {
+pub(crate) fn naf_row(out: &mut [u8], at: usize, r: NafRow) -> usize {
     let at = number(out, at, r.number);
     let l = r.row;
     let at = hex_digits(out, at, &l);
@@ -70,7 +70,7 @@ pub fn naf_row(out: &mut [u8], at: usize, r: NafRow) -> usize {
 }
 
 // An answer that carries a radix row.
-pub fn radix_row(out: &mut [u8], at: usize, r: RadixRow) -> usize {
+pub(crate) fn radix_row(out: &mut [u8], at: usize, r: RadixRow) -> usize {
     let at = number(out, at, r.number);
     let l = r.row;
     let at = hex_digits(out, at, &l);
@@ -78,7 +78,7 @@ pub fn radix_row(out: &mut [u8], at: usize, r: RadixRow) -> usize {
 }
 
 // An answer that carries the bytes of a scalar.
-pub fn scalar_bytes(out: &mut [u8], at: usize, r: ScalarBytes) -> usize {
+pub(crate) fn scalar_bytes(out: &mut [u8], at: usize, r: ScalarBytes) -> usize {
     let at = number(out, at, r.number);
     let l = r.bytes;
     let at = hex_bytes(out, at, &l);
@@ -86,7 +86,7 @@ pub fn scalar_bytes(out: &mut [u8], at: usize, r: ScalarBytes) -> usize {
 }
 
 // An answer that carries a window of 8 elements.
-pub fn window8(out: &mut [u8], at: usize, r: Window8) -> usize {
+pub(crate) fn window8(out: &mut [u8], at: usize, r: Window8) -> usize {
     let at = number(out, at, r.number);
     let l = r.limbs;
     let at = hex_limbs(out, at, &l);
@@ -94,7 +94,7 @@ pub fn window8(out: &mut [u8], at: usize, r: Window8) -> usize {
 }
 
 // An answer that carries a window of 64 elements.
-pub fn window64(out: &mut [u8], at: usize, r: Window64) -> usize {
+pub(crate) fn window64(out: &mut [u8], at: usize, r: Window64) -> usize {
     let at = number(out, at, r.number);
     let l = r.limbs;
     let at = hex_limbs(out, at, &l);
@@ -109,7 +109,7 @@ fn lent(out: &mut [u8], at: usize, n: usize) -> usize {
 }
 
 // A lent list of digits, in full up to 64 bytes.
-pub fn lent_digits(out: &mut [u8], at: usize, list: &[i8]) -> usize {
+pub(crate) fn lent_digits(out: &mut [u8], at: usize, list: &[i8]) -> usize {
     let at = lent(out, at, list.len());
     if list.len() <= 64 {
         return hex_digits(out, at, list);
@@ -118,7 +118,7 @@ pub fn lent_digits(out: &mut [u8], at: usize, list: &[i8]) -> usize {
 }
 
 // A lent list of limbs likewise.
-pub fn lent_limbs(out: &mut [u8], at: usize, list: &[u64]) -> usize {
+pub(crate) fn lent_limbs(out: &mut [u8], at: usize, list: &[u64]) -> usize {
     let at = lent(out, at, list.len());
     if list.len() <= 8 {
         return hex_limbs(out, at, list);
@@ -127,12 +127,18 @@ pub fn lent_limbs(out: &mut [u8], at: usize, list: &[u64]) -> usize {
 }
 
 // The line's end, and where the case leaves reader and writer.
-pub fn end(out: &mut [u8], at: usize, s: State) -> State {
+pub(crate) fn end(out: &mut [u8], at: usize, s: State) -> State {
     with_put(s, put(out, at, 10))
 }
 
 // The line of a sum with digits and limbs as working room.
-pub fn sum_with_room(out: &mut [u8], r: Sum, digits: &[i8], limbs: &[u64], s: State) -> State {
+pub(crate) fn sum_with_room(
+    out: &mut [u8],
+    r: Sum,
+    digits: &[i8],
+    limbs: &[u64],
+    s: State,
+) -> State {
     let at = sum(out, s.put, r);
     let at = lent_digits(out, at, digits);
     let at = lent_limbs(out, at, limbs);
@@ -140,7 +146,7 @@ pub fn sum_with_room(out: &mut [u8], r: Sum, digits: &[i8], limbs: &[u64], s: St
 }
 
 // The line of a call that writes a prepared batch.
-pub fn counted_with_room(
+pub(crate) fn counted_with_room(
     out: &mut [u8],
     r: Counted,
     digits: &[i8],

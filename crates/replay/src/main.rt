@@ -69,7 +69,7 @@ fn replay(
 ) {
     let mut s = start();
     let mut k: u64 = 1;
-    while k < 18446744073709551615 {
+    while k < u64::MAX {
         s = one(k, input, out, b0, b1, b2, d, l0, l1, l2, s);
         if s.bad {
             break;

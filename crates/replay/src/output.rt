@@ -1,14 +1,15 @@
 // The text on standard output: bytes through a buffer, decimal and hexadecimal numbers, checksums. Each function is given how many bytes wait in the buffer, and answers how many do after it.
 ghost use Prim.Native.Nat.{_<_};
 use crate::parts;
+use libc::STDOUT_FILENO;
 
 // A byte behind those that wait, which are written where the buffer is full.
-pub fn put(out: &mut [u8], at: usize, byte: u8) -> usize {
+pub(crate) fn put(out: &mut [u8], at: usize, byte: u8) -> usize {
     if at < out.len() {
         out[at] = byte;
         return at + 1;
     }
-    io::write_all(1, out);
+    io::write_all(STDOUT_FILENO, out);
     if out.len() == 0 {
         return 0;
     }
@@ -17,12 +18,12 @@ pub fn put(out: &mut [u8], at: usize, byte: u8) -> usize {
 }
 
 // What waits is written.
-pub fn flush(out: &mut [u8], at: usize) {
-    io::write_all(1, parts::bytes(out, at));
+pub(crate) fn flush(out: &mut [u8], at: usize) {
+    io::write_all(STDOUT_FILENO, parts::bytes(out, at));
 }
 
 // A text.
-pub fn text(out: &mut [u8], at: usize, t: &[u8]) -> usize {
+pub(crate) fn text(out: &mut [u8], at: usize, t: &[u8]) -> usize {
     let mut at = at;
     let mut i: usize = 0;
     while i < t.len() {
@@ -33,14 +34,14 @@ pub fn text(out: &mut [u8], at: usize, t: &[u8]) -> usize {
 }
 
 // A number, decimal.
-pub fn decimal(out: &mut [u8], at: usize, n: u64) -> usize {
+pub(crate) fn decimal(out: &mut [u8], at: usize, n: u64) -> usize {
     let mut t = [0u8; 20];
     let k = io::decimal(n, &mut t);
     text(out, at, &t[..k])
 }
 
 // A checksum, 16 hexadecimal digits behind a #.
-pub fn checksum(out: &mut [u8], at: usize, n: u64) -> usize {
+pub(crate) fn checksum(out: &mut [u8], at: usize, n: u64) -> usize {
     let at = put(out, at, 35);
     let mut t = [0u8; 16];
     let k = io::hex(n, 16, &mut t);
@@ -48,7 +49,7 @@ pub fn checksum(out: &mut [u8], at: usize, n: u64) -> usize {
 }
 
 // The last line, where case number n is malformed.
-pub fn malformed(out: &mut [u8], at: usize, n: u64) {
+pub(crate) fn malformed(out: &mut [u8], at: usize, n: u64) {
     let at = text(out, at, b"malformed at case ");
     let at = decimal(out, at, n);
     let at = put(out, at, 10);
@@ -69,7 +70,7 @@ fn hex_byte(out: &mut [u8], at: usize, byte: u8) -> usize {
 }
 
 // A digit's byte, two's complement.
-pub fn byte_of(d: i8) -> u8 {
+pub(crate) fn byte_of(d: i8) -> u8 {
     let m = (digit::magnitude(d) % 256) as u8;
     if d < 0 {
         return std::num::wrapping_sub_u8(0, m);
@@ -78,14 +79,14 @@ pub fn byte_of(d: i8) -> u8 {
 }
 
 // Byte k of a limb, the lowest being 0.
-pub fn limb_byte(limb: u64, k: usize) -> u8
+pub(crate) fn limb_byte(limb: u64, k: usize) -> u8
     requires { ⌜ k < 8 ⌝ }
 {
     ((limb >> (8 * k)) % 256) as u8
 }
 
 // Bytes, in hexadecimal.
-pub fn hex_bytes(out: &mut [u8], at: usize, list: &[u8]) -> usize {
+pub(crate) fn hex_bytes(out: &mut [u8], at: usize, list: &[u8]) -> usize {
     let mut at = at;
     let mut i: usize = 0;
     while i < list.len() {
@@ -96,7 +97,7 @@ pub fn hex_bytes(out: &mut [u8], at: usize, list: &[u8]) -> usize {
 }
 
 // Digits likewise.
-pub fn hex_digits(out: &mut [u8], at: usize, list: &[i8]) -> usize {
+pub(crate) fn hex_digits(out: &mut [u8], at: usize, list: &[i8]) -> usize {
     let mut at = at;
     let mut i: usize = 0;
     while i < list.len() {
@@ -118,7 +119,7 @@ fn hex_limb(out: &mut [u8], at: usize, limb: u64) -> usize {
 }
 
 // Limbs likewise.
-pub fn hex_limbs(out: &mut [u8], at: usize, list: &[u64]) -> usize {
+pub(crate) fn hex_limbs(out: &mut [u8], at: usize, list: &[u64]) -> usize {
     let mut at = at;
     let mut i: usize = 0;
     while i < list.len() {

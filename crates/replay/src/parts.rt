@@ -1,22 +1,22 @@
 // The first n elements of lent memory: the list that a case has there.
 
 // Bytes or flags.
-pub fn bytes(list: &[u8], n: usize) -> &[u8] {
+pub(crate) fn bytes(list: &[u8], n: usize) -> &[u8] {
     if n <= list.len() { &list[0..n] } else { list }
 }
 
 // Digits.
-pub fn digits(list: &[i8], n: usize) -> &[i8] {
+pub(crate) fn digits(list: &[i8], n: usize) -> &[i8] {
     if n <= list.len() { &list[0..n] } else { list }
 }
 
 // Limbs.
-pub fn limbs(list: &[u64], n: usize) -> &[u64] {
+pub(crate) fn limbs(list: &[u64], n: usize) -> &[u64] {
     if n <= list.len() { &list[0..n] } else { list }
 }
 
 // Digits that a call may write.
-pub fn digits_room(list: &mut [i8], n: usize) -> &mut [i8] {
+pub(crate) fn digits_room(list: &mut [i8], n: usize) -> &mut [i8] {
     if n <= list.len() {
         &mut list[0..n]
     } else {
@@ -25,7 +25,7 @@ pub fn digits_room(list: &mut [i8], n: usize) -> &mut [i8] {
 }
 
 // Limbs that a call may write.
-pub fn limbs_room(list: &mut [u64], n: usize) -> &mut [u64] {
+pub(crate) fn limbs_room(list: &mut [u64], n: usize) -> &mut [u64] {
     if n <= list.len() {
         &mut list[0..n]
     } else {

@@ -8,11 +8,7 @@ use native.Mathlib.Decide.{decLt}
 use lib.ListN.{length, getD, take, drop, List·getD-eq-default}
 use lib.Arith.{digits-lt}
 use lib.Pow.{shr-shr, shr-lt, high, pow-add, pow-pos}
-use Rattle.rules.specs.Values.{number, places}
-
--- each place holds less than B
-abbrev pub Below : ℕ → List ℕ → Type 0
-Below B l = (i : ℕ) → getD l i 0 < B
+use Rattle.rules.specs.Values.{number, places, Below}
 
 -- the number from place k on
 pub number-at : (B : ℕ) (l : List ℕ) (k : ℕ) → number B (drop k l) ≡ getD l k 0 + B * number B (drop (suc k) l)

@@ -8,7 +8,7 @@ use lib.ListN.{length, getD, set, take, replicate, length-set, length-take, List
 use lib.Seq.{getD-set-same, getD-set-other, getD-take, ext-getD}
 use lib.Pow.{shr-shr}
 use lib.IntN.{ℤ, pos, natAbs, subℕ}
-use Rattle.rules.specs.Values.{number}
+use Rattle.rules.specs.Values.{number, Below}
 use Rattle.rules.specs.Rows.{digit, above, radixRow, usedPlaces}
 use Rattle.laws.specs.Digits.{carry, carry-bit, window-le, after}
 use Rattle.laws.specs.RadixRows.{radix-length, radix-start, radix-state, radix-window, radix-window-last}
@@ -16,7 +16,7 @@ use mir.Syntax.{w8}
 use mir.Val.{toZ, ofZ}
 use mir.Facts.{toZ-ofZ}
 use Rattle.scalar.specs.Nibbles.{Small, Nibbles}
-use Rattle.scalar.proofs.Base.{Below, number-at, number-from}
+use Rattle.scalar.proofs.Base.{number-at, number-from}
 use Rattle.scalar.proofs.Ints.{fits8}
 
 -- ---- a byte of the first 32, in the number that they say

@@ -9,7 +9,7 @@ use native.Mathlib.Omega.{arith}
 use lib.ListN.{length, replicate}
 use lib.IntN.{ℤ, pos, natAbs}
 use borrow.Author.Tests.{leb-false, lt-leb}
-use Rattle.rules.specs.Values.{number, places}
+use Rattle.rules.specs.Values.{number, places, Below}
 use Rattle.rules.specs.Numbers.{rowBound, first, nafAnswer, radixAnswer, bytesAnswer, badDigit}
 use Rattle.rules.specs.Rows.{digit, rowSum, notLong, widthOff, rowless, noScalar, recodeRefusal, nafRow, radixRow, nafOf, radixOf, readNaf, readNafRefusal, readRadix, readRadixRefusal}
 use Rattle.laws.specs.Conditions.{first-none, given-done}
@@ -17,7 +17,7 @@ use Rattle.laws.specs.NafRows.{naf-length}
 use Rattle.laws.specs.RadixRows.{radix-length}
 use Rattle.laws.specs.RowsRule.{naf-obeys, radix-obeys}
 use Rattle.laws.specs.RowsRead.{naf-reads, radix-reads}
-use Rattle.scalar.proofs.Base.{Below, places-length, number-places}
+use Rattle.scalar.proofs.Base.{places-length, number-places}
 use Rattle.scalar.proofs.Fronts.{within, width-in, is-long, long-is, passed, readRefusal}
 use Rattle.scalar.proofs.Reading.{bound-room}
 

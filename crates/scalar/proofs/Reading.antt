@@ -12,7 +12,7 @@ use lib.Seq.{getD-set-same, getD-set-other, ext-getD, take-all}
 use lib.IntN.{ℤ, pos, negsuc, natAbs}
 use borrow.Author.Tests.{lt-ltb, ltb-true, leb-true, leb-false}
 use Rattle.rules.specs.declared.Element.{Element}
-use Rattle.rules.specs.Values.{number, places, limb, valueOf}
+use Rattle.rules.specs.Values.{number, places, limb, valueOf, Below}
 use Rattle.rules.specs.Numbers.{rowBound, any, bytesAnswer}
 use Rattle.rules.specs.Rows.{digit, rowSum, sameDigit, sameRow, noScalar}
 use Rattle.laws.specs.Conditions.{any-at, any-end}
@@ -22,7 +22,7 @@ use Rattle.limbs.proofs.Elements.{Ranged, ranged-of, small}
 use Rattle.scalar.specs.Readers.{shapeRefusal, comparedRows}
 use Rattle.scalar.specs.Sums.{Whole, Says}
 use Rattle.scalar.specs.Words.{Words}
-use Rattle.scalar.proofs.Base.{Below, places-length, places-at, places-below, number-places}
+use Rattle.scalar.proofs.Base.{places-length, places-at, places-below, number-places}
 use Rattle.scalar.proofs.Fronts.{readRefusal, read-none, read-found}
 use Rattle.scalar.proofs.Top.{top-test}
 

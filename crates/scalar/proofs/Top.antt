@@ -9,9 +9,9 @@ use lib.ListN.{length, getD, drop, drop-of-length-le}
 use lib.Dec.{leb, ltb}
 use lib.Pow.{pow-pos}
 use borrow.Author.Tests.{lt-ltb, le-ltb, le-leb, lt-leb}
-use Rattle.rules.specs.Values.{number}
+use Rattle.rules.specs.Values.{number, Below}
 use Rattle.rules.specs.Numbers.{rowBound}
-use Rattle.scalar.proofs.Base.{Below, number-at, number-from}
+use Rattle.scalar.proofs.Base.{number-at, number-from}
 
 -- the last of 32 bytes is what the number has from bit 248 on
 top-byte : (l : List ℕ) → Below 256 l → length l ≡ 32 → number 256 l / 2 ^ 248 ≡ getD l 31 0

@@ -9,6 +9,7 @@ ghost use Rattle.scalar.specs.Readers.{shapeRefusal, comparedRows};
 ghost use Rattle.scalar.specs.Sums.{Whole, Says};
 use super::naf::naf_row;
 use super::radix::radix_row;
+use super::words::TOP;
 use super::words::bit_buf;
 use digit::magnitude;
 use rules::Element;
@@ -129,7 +130,7 @@ fn shape_refusal(row: &[i8], long: usize, low: usize, w: usize) -> u8
 fn compared(row: &[i8], again: &[i8], bytes: [u8; 32]) -> ScalarBytes
     ensures { λ r. ⌜ r ≡ comparedRows (now (row .entry)) (now (again .entry)) bytes ⌝ }
 {
-    if 127 < bytes[31] {
+    if TOP < bytes[31] {
         return refused(10);
     }
     if !same_row(again, row) {

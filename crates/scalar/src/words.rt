@@ -6,6 +6,9 @@ ghost use Rattle.rules.specs.Values.{number, limb};
 ghost use Rattle.rules.specs.Rows.{recodeRefusal};
 ghost use Rattle.scalar.specs.Words.{Words};
 
+// The highest byte of 2^255 - 1, the largest number that has a row.
+pub(crate) const TOP: u8 = 127;
+
 // Byte k of a scalar, 0 past its end.
 pub(crate) fn byte(scalar: &[u8], k: usize) -> u64
     ensures { λ r. ⌜ (r ≡ getD (now (scalar .entry)) k 0) × (r < 256) ⌝ }
@@ -79,7 +82,7 @@ pub(crate) fn recode_refusal(scalar: &[u8], low: usize, w: usize) -> u8
     if 8 < w {
         return 3;
     }
-    if 127 < scalar[31] {
+    if TOP < scalar[31] {
         return 6;
     }
     0

@@ -71,11 +71,11 @@ module _ (ds : List ℤ) (ls : List ℕ) where
       pub additions-fit : 0 < j → a + m ≤ 64 * m
       additions-fit lt = omega (arith, h .added-so-far, place-off lt)
 
-      pub walking-more : 0 < j → {z r : Element} → z ≡ doubled elements 4 q → r ≡ radixColumn elements (rowEntry ds ls) m (j - 1) z → Walking r (a + m) (b + 4) (j - 1)
+      pub walking-more : 0 < j → {z r : Element} {a′ : ℕ} → z ≡ doubled elements 4 q → (r ≡ radixColumn elements (rowEntry ds ls) m (j - 1) z) × (a′ ≡ a + m) → Walking r a′ (b + 4) (j - 1)
       walking-more lt e f = record {
         place = omega (arith, h .place);
-        rest = h .rest ∙ down-turn step j q lt ∙ ap (down step (j - 1)) (sym (f ∙ ap (radixColumn elements (rowEntry ds ls) m (j - 1)) e));
-        added-so-far = omega (arith, h .added-so-far, place-off lt);
+        rest = h .rest ∙ down-turn step j q lt ∙ ap (down step (j - 1)) (sym (f .0 ∙ ap (radixColumn elements (rowEntry ds ls) m (j - 1)) e));
+        added-so-far = omega (arith, h .added-so-far, place-off lt, f .1);
         doubled-so-far = omega (arith, h .doubled-so-far);
       }
 

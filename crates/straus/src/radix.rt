@@ -1,6 +1,6 @@
 // Radix-16 Straus: rows and windows, and the walk that adds at every place.
 ghost use mathlib.Core.Path.{_≡_};
-ghost use Prim.Native.Nat.{_<_};
+ghost use Prim.Native.Nat.{_<_, _+_, _^_};
 ghost use lib.ListN.{length};
 ghost use Rattle.rules.specs.Group.{added, elements};
 ghost use Rattle.rules.specs.Rows.{digit};
@@ -81,10 +81,17 @@ pub(crate) fn added(q: Element, row: &[i8], window: &[u64], j: usize) -> Element
     residue::plus(q, window::looked_up(window, row[j]))
 }
 
-// Place j of the first m rows, each handed on as a part with its window's part.
-pub(crate) fn column(q: Element, digits: &[i8], limbs: &[u64], m: usize, j: usize) -> Element
-    requires { ⌜ Rows m (now digits) (now limbs) × (j < 64) ⌝ }
-    ensures { λ r. ⌜ r ≡ radixColumn elements (rowEntry (now (digits .entry)) (now (limbs .entry))) m j q ⌝ }
+// Place j of the first m rows, each handed on as a part with its window's part; an addition for each.
+pub(crate) fn column(
+    q: Element,
+    digits: &[i8],
+    limbs: &[u64],
+    m: usize,
+    j: usize,
+    additions: &mut u64,
+) -> Element
+    requires { ⌜ Rows m (now digits) (now limbs) × (j < 64) × (now additions + m < 2 ^ 64) ⌝ }
+    ensures { λ r. ⌜ (r ≡ radixColumn elements (rowEntry (now (digits .entry)) (now (limbs .entry))) m j q) × (now (additions .exit) ≡ now (additions .entry) + m) ⌝ }
 {
     let mut r = q;
     let mut i: usize = 0;
@@ -94,6 +101,7 @@ pub(crate) fn column(q: Element, digits: &[i8], limbs: &[u64], m: usize, j: usiz
         let b = 32 * i;
         let f = b + 32;
         r = added(r, &digits[a..e], &limbs[b..f], j);
+        *additions += 1;
         i += 1;
     }
     r
@@ -110,9 +118,9 @@ pub(crate) fn walk(digits: &[i8], limbs: &[u64], m: usize) -> Walk
     let mut j: usize = 64;
     while 0 < j {
         j -= 1;
-        q = column(residue::mul_by_pow_2(q, 4), digits, limbs, m, j);
-        additions += m as u64;
+        q = residue::mul_by_pow_2(q, 4);
         doublings += 4;
+        q = column(q, digits, limbs, m, j, &mut additions);
     }
     Walk {
         element: q,

@@ -15,14 +15,14 @@ use Rattle.rules.specs.declared.Walk.{Walk}
 use Rattle.rules.specs.Values.{limb, elementOf, part, flat, elementAt, pointAt, scalarAt}
 use Rattle.rules.specs.Group.{L, residues, elements, total}
 use Rattle.rules.specs.Loops.{weight}
-use Rattle.rules.specs.Numbers.{rowBound}
+use Rattle.rules.specs.Numbers.{rowBound, condition}
 use Rattle.rules.specs.Rows.{digit, nafRow, notLong, widthOff, nafRowOf}
 use Rattle.rules.specs.Windows.{odd, limbsFlat, anyOver}
 use Rattle.rules.specs.Lists.{anyBig}
 use Rattle.rules.specs.Engines.{rowsDigit, doubleConditions, doubleRefusal, startPlace}
 use Rattle.rules.specs.Helpers.{elementsFlat, Made, madeOdd, walked}
 use Rattle.laws.specs.Conditions.{or-split}
-use Rattle.laws.specs.Answers.{condition, first-done}
+use Rattle.laws.specs.Answers.{first-done}
 use Rattle.laws.specs.Weight.{weight-le}
 use Rattle.lent.proofs.Puts.{put-same}
 use Rattle.lent.proofs.Passed.{small, under}

@@ -1,4 +1,6 @@
 -- With j places still to come, the steps that are left lead from the running sum to the walked one.
+use mathlib.Core.Path.{_≡_}
+use Prim.Native.Nat.{_+_}
 use native.Mathlib.Omega.{arith}
 use borrow.Author.Needs.{needs}
 use Rattle.columns.proofs.Walking.{Walking, walking-none, walking-more, walking-passes, walking-passes′, walking-end}
@@ -6,10 +8,11 @@ use Rattle.columns.proofs.walk.Statement.{statement}
 use Rattle.columns.proofs.walk.Tie as tie
 
 abbrev Inv-loop : tie.InvT-loop
-Inv-loop digits windows static-digits tables places m s n r₀ j₀ r j = Walking digits windows m static-digits tables s n r j
+Inv-loop digits windows static-digits tables places m s n r₀ doublings₀ j₀ r doublings j =
+    Walking digits windows m static-digits tables s n r j × (doublings + j ≡ n)
 
 abbrev μ-loop : tie.MeasureT-loop
-μ-loop digits windows static-digits tables places m s n r₀ j₀ r j = j
+μ-loop digits windows static-digits tables places m s n r₀ doublings₀ j₀ r doublings j = j
 
 windowed-requires : tie.Need-windowed-requires Inv-loop μ-loop
 windowed-requires c κs = search needs
@@ -24,7 +27,7 @@ identity-requires : tie.Need-identity-requires Inv-loop μ-loop
 identity-requires c κs = search needs
 
 loop-holds : tie.Need-loop-holds Inv-loop μ-loop
-loop-holds c = walking-none _ _ _ _ _ _ _ _ (c .identity .ensures)
+loop-holds c = (walking-none _ _ _ _ _ _ _ _ (c .identity .ensures), omega arith)
 
 sub-j : tie.Need-sub-j Inv-loop μ-loop
 sub-j c = omega arith
@@ -32,12 +35,15 @@ sub-j c = omega arith
 twice-requires : tie.Need-twice-requires Inv-loop μ-loop
 twice-requires c κs = search needs
 
+add-doublings : tie.Need-add-doublings Inv-loop μ-loop
+add-doublings c = search needs
+
 column-requires : tie.Need-column-requires Inv-loop μ-loop
 column-requires c κs =
     let l = c .before .before .before in
     let s = l .before .before in
     let t = s .before .before .before .before .before in
-    walking-passes _ _ _ _ _ _ _ _ (s .before .before .windowed .ensures) (s .before .windowed2 .ensures) (s .smaller .ensures) _ _ (l .loop .inv)
+    walking-passes _ _ _ _ _ _ _ _ (s .before .before .windowed .ensures) (s .before .windowed2 .ensures) (s .smaller .ensures) _ _ (l .loop .inv .0)
     (omega arith)
     (t .good .0 .1)
     (t .good .1 .1 .0 .1)
@@ -47,7 +53,7 @@ column-requires-2 c κs =
     let l = c .before .before .before .before in
     let s = l .before .before in
     let t = s .before .before .before .before .before in
-    walking-passes′ _ _ _ _ _ _ _ _ (s .before .before .windowed .ensures) (s .before .windowed2 .ensures) (s .smaller .ensures) _ _ (l .loop .inv)
+    walking-passes′ _ _ _ _ _ _ _ _ (s .before .before .windowed .ensures) (s .before .windowed2 .ensures) (s .smaller .ensures) _ _ (l .loop .inv .0)
     (omega arith)
     (t .good .0 .1)
     (t .good .1 .1 .0 .1)
@@ -60,13 +66,13 @@ loop-less c = omega arith
 loop-again : tie.Need-loop-again Inv-loop μ-loop
 loop-again c =
     let l = c .before .before .before .before .before in
-    walking-more _ _ _ _ _ _ _ _ _ (l .loop .inv) (omega arith) _ _ _ (c .before .before .twice .ensures) (c .before .column .ensures) (c .column2 .ensures)
+    (walking-more _ _ _ _ _ _ _ _ _ (l .loop .inv .0) (omega arith) _ _ _ (c .before .before .twice .ensures) (c .before .column .ensures) (c .column2 .ensures), omega (arith, l .loop .inv .1))
 
 returns : tie.Need-returns Inv-loop μ-loop
 returns c =
     let l = c .before .before in
     let s = l .before .before in
-    walking-end _ _ _ _ _ _ _ _ (s .before .before .windowed .ensures) (s .before .windowed2 .ensures) (s .smaller .ensures) _ _ (l .loop .inv) (omega arith)
+    walking-end _ _ _ _ _ _ _ _ (s .before .before .windowed .ensures) (s .before .windowed2 .ensures) (s .smaller .ensures) _ _ (l .loop .inv .0) (omega arith) _ (l .loop .inv .1)
 
 pub walk-spec : {M : Type 1} → statement M
 walk-spec =
@@ -81,6 +87,7 @@ walk-spec =
     loop-holds
     sub-j
     twice-requires
+    add-doublings
     column-requires
     column-requires-2
     loop-less

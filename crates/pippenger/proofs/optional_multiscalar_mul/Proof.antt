@@ -44,11 +44,11 @@ mul-clear-digits c = omega (arith, passed (c .before .before .before .before .be
 clear-digits-requires : tie.Need-clear-digits-requires
 clear-digits-requires c κs = search needs
 
-buckets-of-requires : tie.Need-buckets-of-requires
-buckets-of-requires c κs = let p = passed (c .before .before .before .before .before .before .before .before .before .before .before .before) in (p .low, p .high)
+buckets-count-requires : tie.Need-buckets-count-requires
+buckets-count-requires c κs = let p = passed (c .before .before .before .before .before .before .before .before .before .before .before .before) in (p .low, p .high)
 
 mul-clear-limbs : tie.Need-mul-clear-limbs
-mul-clear-limbs c = let p = passed (c .before .before .before .before .before .before .before .before .before .before .before .before .before) in omega (arith, c .buckets-of .ensures, wide _ (p .low) (p .high) .buckets)
+mul-clear-limbs c = let p = passed (c .before .before .before .before .before .before .before .before .before .before .before .before .before) in omega (arith, c .buckets-count .ensures, wide _ (p .low) (p .high) .buckets)
 
 clear-limbs-requires : tie.Need-clear-limbs-requires
 clear-limbs-requires c κs = search needs
@@ -66,7 +66,7 @@ returns-2 : tie.Need-returns-2
 returns-2 c =
     let s = c .before .before .before .before .before .before .before .before .before .before .before .before .before .before .before .before .before .before in
     done-after _ _ _ _ _ (s .before .before .before .before .refusal .ensures) (s .before .before .before .if1 .left) (s .before .before .pairs .ensures) (s .before .picked-by .ensures) (s .width .ensures) (passed s)
-    (c .before .before .before .before .before .before .before .before .before .before .before .before .before .before .before .before .fill .ensures) (c .before .before .before .before .before .before .before .before .before .before .before .before .walk .ensures) (c .before .before .before .before .before .before .before .before .clear-digits .ensures) (c .before .before .before .before .before .buckets-of .ensures) (c .before .before .before .before .clear-limbs .ensures) (c .sum .ensures)
+    (c .before .before .before .before .before .before .before .before .before .before .before .before .before .before .before .before .fill .ensures) (c .before .before .before .before .before .before .before .before .before .before .before .before .walk .ensures) (c .before .before .before .before .before .before .before .before .clear-digits .ensures) (c .before .before .before .before .before .buckets-count .ensures) (c .before .before .before .before .clear-limbs .ensures) (c .sum .ensures)
 
 pub optional-multiscalar-mul-spec : {M : Type 1} → statement M
 optional-multiscalar-mul-spec =
@@ -82,7 +82,7 @@ optional-multiscalar-mul-spec =
     walk-requires
     mul-clear-digits
     clear-digits-requires
-    buckets-of-requires
+    buckets-count-requires
     mul-clear-limbs
     clear-limbs-requires
     sum-requires

@@ -21,7 +21,7 @@ few : (c : tie.Else2) → let a = c .before .before .before .before .before .bef
 few c = told (c .before .lists-too-many .ensures) (c .if2 .left)
 
 long : (c : tie.Else4) → let a = c .before .before .before .before .before .before .before .before .before .before .before .before .before .args in short (a .scalars .now) (a .points .now) (a .digits) (a .buckets) ≡ false
-long c = let s = c .before in long-enough _ _ _ _ (s .before .width .ensures) (s .before .before .picked-by .ensures) (s .buckets-of .ensures) (s .before .before .before .before .pairs .ensures) (s .before .before .before .if3 .left) (c .if4 .left)
+long c = let s = c .before in long-enough _ _ _ _ (s .before .width .ensures) (s .before .before .picked-by .ensures) (s .buckets-count .ensures) (s .before .before .before .before .pairs .ensures) (s .before .before .before .if3 .left) (c .if4 .left)
 
 small : (c : tie.Else5) → anyBig (c .before .before .before .before .before .before .before .before .before .before .before .before .before .before .before .args .scalars .now) ≡ false
 small c = told (c .before .any-big .ensures) (c .if5 .left)
@@ -59,14 +59,14 @@ picked-by-requires c κs = search needs
 width-requires : tie.Need-width-requires
 width-requires c κs = search needs
 
-buckets-of-requires : tie.Need-buckets-of-requires
-buckets-of-requires c κs = picked _ (c .width .ensures)
+buckets-count-requires : tie.Need-buckets-count-requires
+buckets-count-requires c κs = picked _ (c .width .ensures)
 
 mul-if4 : tie.Need-mul-if4
-mul-if4 c = let p = picked _ (c .before .width .ensures) in omega (arith, c .buckets-of .ensures, wide _ (p .0) (p .1) .buckets)
+mul-if4 c = let p = picked _ (c .before .width .ensures) in omega (arith, c .buckets-count .ensures, wide _ (p .0) (p .1) .buckets)
 
 returns-4 : tie.Need-returns-4
-returns-4 c = let s = c .before in answers _ _ _ _ _ (whole (c .before .before .before .before .before .before .before .before)) (few (c .before .before .before .before .before .before)) (short-buckets _ _ _ _ (s .before .width .ensures) (s .before .before .picked-by .ensures) (s .buckets-of .ensures) (c .if4 .taken)) refl refl refl
+returns-4 c = let s = c .before in answers _ _ _ _ _ (whole (c .before .before .before .before .before .before .before .before)) (few (c .before .before .before .before .before .before)) (short-buckets _ _ _ _ (s .before .width .ensures) (s .before .before .picked-by .ensures) (s .buckets-count .ensures) (c .if4 .taken)) refl refl refl
 
 any-big-requires : tie.Need-any-big-requires
 any-big-requires c κs = search needs
@@ -102,7 +102,7 @@ refusal-spec =
     returns-3
     picked-by-requires
     width-requires
-    buckets-of-requires
+    buckets-count-requires
     mul-if4
     returns-4
     any-big-requires

@@ -164,7 +164,7 @@ fn optional(
 }
 
 // Codes 16 to 19 and 22.
-pub fn answer(
+pub(crate) fn answer(
     code: u64,
     input: &mut [u8],
     out: &mut [u8],

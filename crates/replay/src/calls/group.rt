@@ -54,7 +54,7 @@ fn one(code: u64, input: &mut [u8], out: &mut [u8], a: &mut [u64], s: State) -> 
 }
 
 // Codes 0 to 4; 0 is unknown.
-pub fn answer(
+pub(crate) fn answer(
     code: u64,
     input: &mut [u8],
     out: &mut [u8],

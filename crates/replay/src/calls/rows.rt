@@ -3,7 +3,6 @@ use crate::input;
 use crate::input::State;
 use crate::line;
 use crate::parts;
-use rules::RadixRow;
 use rules::ScalarBytes;
 
 // Code 5.
@@ -69,7 +68,7 @@ fn read(code: u64, input: &mut [u8], out: &mut [u8], d: &mut [i8], s: State) -> 
 }
 
 // Codes 5 to 9.
-pub fn answer(
+pub(crate) fn answer(
     code: u64,
     input: &mut [u8],
     out: &mut [u8],

@@ -19,7 +19,7 @@ fn new_line(out: &mut [u8], points: &[u64], tables: &mut [u64], n: Lengths) -> S
 }
 
 // Code 20.
-pub fn new(
+pub(crate) fn new(
     input: &mut [u8],
     out: &mut [u8],
     points: &mut [u64],
@@ -69,7 +69,7 @@ fn mixed_line(
 }
 
 // Code 21.
-pub fn mixed(
+pub(crate) fn mixed(
     input: &mut [u8],
     out: &mut [u8],
     tables: &mut [u64],

@@ -64,7 +64,13 @@ fn select(code: u64, input: &mut [u8], out: &mut [u8], l: &mut [u64], s: State) 
 }
 
 // Codes 10 to 15.
-pub fn answer(code: u64, input: &mut [u8], out: &mut [u8], l: &mut [u64], s: State) -> State {
+pub(crate) fn answer(
+    code: u64,
+    input: &mut [u8],
+    out: &mut [u8],
+    l: &mut [u64],
+    s: State,
+) -> State {
     if code < 12 {
         return make8(code, input, out, l, s);
     }

@@ -12,11 +12,11 @@ use Rattle.pippenger.proofs.column.sum_buckets.Statement.{statement}
 use Rattle.pippenger.proofs.column.sum_buckets.Tie as tie
 
 abbrev Inv-loop : tie.InvT-loop
-Inv-loop buckets n running₀ sum₀ additions₀ i₀ running sum additions i =
-    (i ≤ n - 1) × (additions + 2 * i ≡ 2 * (n - 1)) × (down (ran elements (elementAt buckets)) i (running, sum) .1 ≡ bucketSum elements (elementAt buckets) (n - 1))
+Inv-loop buckets n intermediate₀ sum₀ additions₀ i₀ intermediate sum additions i =
+    (i ≤ n - 1) × (additions + 2 * i ≡ 2 * (n - 1)) × (down (ran elements (elementAt buckets)) i (intermediate, sum) .1 ≡ bucketSum elements (elementAt buckets) (n - 1))
 
 abbrev μ-loop : tie.MeasureT-loop
-μ-loop buckets n running₀ sum₀ additions₀ i₀ running sum additions i = i
+μ-loop buckets n intermediate₀ sum₀ additions₀ i₀ intermediate sum additions i = i
 
 sub-load : tie.Need-sub-load Inv-loop μ-loop
 sub-load c = omega arith
@@ -54,7 +54,7 @@ loop-again c =
     (omega arith, omega arith, ran-turn (elementAt (s .before .before .before .args .buckets .now)) _ _ _ (c .before .before .before .loop-test .taken) (c .before .before .load2 .ensures) (c .before .plus .ensures) (c .plus2 .ensures) (s .loop .inv .2))
 
 returns : tie.Need-returns Inv-loop μ-loop
-returns c = let s = c .before in (ran-end (elementAt (s .before .before .before .args .buckets .now)) (s .loop .i) (s .loop .running) (omega arith) (s .loop .inv .2), (omega arith, refl))
+returns c = let s = c .before in (ran-end (elementAt (s .before .before .before .args .buckets .now)) (s .loop .i) (s .loop .buckets-intermediate-sum) (omega arith) (s .loop .inv .2), (omega arith, refl))
 
 pub sum-buckets-spec : {M : Type 1} → statement M
 sum-buckets-spec =

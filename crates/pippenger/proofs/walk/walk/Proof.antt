@@ -26,7 +26,7 @@ width c = wide (c .args .w) (c .pre .low) (c .pre .high)
 -- the high column
 high : (c : tie.After-column Inv-loop μ-loop)
     → let a = c .before .before .before .before .before .before .args in ColumnMade (a .digits .now) (a .points .now) (a .m) (usedPlaces (a .w) - 1) (2 ^ (a .w - 1)) (a .buckets .now) (c .column .last .1 .1 .1 .1 .1 .0) (c .column .result)
-high c = rw (c .before .before .before .buckets-of .ensures, c .before .before .places .ensures) at (c .column .ensures)
+high c = rw (c .before .before .before .buckets-count .ensures, c .before .before .digits-count .ensures) at (c .column .ensures)
 
 -- the buckets since the start
 kept : (c : tie.At-loop Inv-loop μ-loop)
@@ -41,7 +41,7 @@ next : (c : tie.After-struct-known Inv-loop μ-loop)
     (s .loop .additions + (c .before .before .before .before .before .before .column2 .result .additions + 1)) (s .loop .doublings + a .w)
 next c =
     let s = c .before .before .before .before .before .before .before .before .before in
-    going-turn _ _ _ _ _ (s .loop .j) (c .before .before .before .before .before .before .before .before .loop-test .taken) (s .loop .inv) (rw (s .before .before .before .before .before .before .before .buckets-of .ensures) at (c .before .before .before .before .before .before .column2 .ensures))
+    going-turn _ _ _ _ _ (s .loop .j) (c .before .before .before .before .before .before .before .before .loop-test .taken) (s .loop .inv) (rw (s .before .before .before .before .before .before .before .buckets-count .ensures) at (c .before .before .before .before .before .before .column2 .ensures))
     (c .before .plus .ensures ∙ ap (λ (x : Element). added x (c .before .before .before .before .before .before .column2 .result .element)) (c .before .before .mul-by-pow-2 .ensures))
 
 -- its counts fit
@@ -49,23 +49,23 @@ fits : (c : tie.After-struct-known Inv-loop μ-loop)
     → let s = c .before .before .before .before .before .before .before .before .before in (s .loop .additions + (c .before .before .before .before .before .before .column2 .result .additions + 1) ≤ 100000) × (s .loop .doublings + s .before .before .before .before .before .before .before .before .before .before .args .w ≤ 504)
 fits c = let a = c .before .before .before .before .before .before .before .before .before .before .before .before .before .before .before .before .before .before .before in going-small _ _ _ _ _ (a .pre .placed 0 (omega arith) .few) (width a) (a .pre .high) (next c)
 
-buckets-of-requires : tie.Need-buckets-of-requires Inv-loop μ-loop
-buckets-of-requires c κs = (c .before .before .pre .low, c .before .before .pre .high)
+buckets-count-requires : tie.Need-buckets-count-requires Inv-loop μ-loop
+buckets-count-requires c κs = (c .before .before .pre .low, c .before .before .pre .high)
 
-places-requires : tie.Need-places-requires Inv-loop μ-loop
-places-requires c κs = (c .before .before .before .pre .low, c .before .before .before .pre .high)
+digits-count-requires : tie.Need-digits-count-requires Inv-loop μ-loop
+digits-count-requires c κs = (c .before .before .before .pre .low, c .before .before .before .pre .high)
 
 sub-column : tie.Need-sub-column Inv-loop μ-loop
-sub-column c = omega (arith, c .places .ensures, width (c .before .before .before .before) .some)
+sub-column c = omega (arith, c .digits-count .ensures, width (c .before .before .before .before) .some)
 
 column-requires : tie.Need-column-requires Inv-loop μ-loop
-column-requires c κs = let a = c .before .before .before .before .before in column-asked (a .pre) (c .before .before .buckets-of .ensures) (omega (arith, c .before .places .ensures, width a .some)) (a .args .buckets .now) refl
+column-requires c κs = let a = c .before .before .before .before .before in column-asked (a .pre) (c .before .before .buckets-count .ensures) (omega (arith, c .before .digits-count .ensures, width a .some)) (a .args .buckets .now) refl
 
 sub-j : tie.Need-sub-j Inv-loop μ-loop
-sub-j c = omega (arith, c .before .before .before .before .before .places .ensures, width (c .before .before .before .before .before .before .before .before .before) .some)
+sub-j c = omega (arith, c .before .before .before .before .before .digits-count .ensures, width (c .before .before .before .before .before .before .before .before .before) .some)
 
 loop-holds : tie.Need-loop-holds Inv-loop μ-loop
-loop-holds c = rw (sym (c .before .before .before .before .before .places .ensures)) at (going-start _ _ _ _ _ (omega (arith, width (c .before .before .before .before .before .before .before .before .before) .some)) (high (c .before .before .before)))
+loop-holds c = rw (sym (c .before .before .before .before .before .digits-count .ensures)) at (going-start _ _ _ _ _ (omega (arith, width (c .before .before .before .before .before .before .before .before .before) .some)) (high (c .before .before .before)))
 
 sub-j-2 : tie.Need-sub-j-2 Inv-loop μ-loop
 sub-j-2 c = omega arith
@@ -74,7 +74,7 @@ column-requires-2 : tie.Need-column-requires-2 Inv-loop μ-loop
 column-requires-2 c κs =
     let s = c .before .before in
     let a = s .before .before .before .before .before .before .before .before .before .before in
-    column-asked (a .pre) (s .before .before .before .before .before .before .before .buckets-of .ensures) (omega (arith, s .loop .inv .place)) (s .loop .buckets) (same-long _ _ _ (kept s))
+    column-asked (a .pre) (s .before .before .before .before .before .before .before .buckets-count .ensures) (omega (arith, s .loop .inv .place)) (s .loop .buckets) (same-long _ _ _ (kept s))
 
 mul-by-pow-2-requires : tie.Need-mul-by-pow-2-requires Inv-loop μ-loop
 mul-by-pow-2-requires c κs = search needs
@@ -111,8 +111,8 @@ walk-spec =
     (tie.spec
     Inv-loop
     μ-loop
-    buckets-of-requires
-    places-requires
+    buckets-count-requires
+    digits-count-requires
     sub-column
     column-requires
     sub-j

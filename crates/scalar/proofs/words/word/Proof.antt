@@ -5,8 +5,8 @@ use mathlib.Core.List.{List}
 use native.Mathlib.Omega.{arith}
 use lib.ListN.{getD, take, drop}
 use lib.Pow.{pow-mono}
-use Rattle.rules.specs.Values.{number}
-use Rattle.scalar.proofs.Base.{Below, part-at, part-lt}
+use Rattle.rules.specs.Values.{number, Below}
+use Rattle.scalar.proofs.Base.{part-at, part-lt}
 use Rattle.scalar.proofs.words.word.Statement.{statement}
 use Rattle.scalar.proofs.words.word.Tie as tie
 

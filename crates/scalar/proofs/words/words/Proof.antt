@@ -6,8 +6,8 @@ use Prim.Native.Nat.{ℕ, zero, suc, _+_, _*_, _<_}
 use native.Mathlib.Nat.{add-zero}
 use native.Mathlib.Omega.{arith}
 use lib.ListN.{getD, take, drop}
-use Rattle.rules.specs.Values.{number, limb}
-use Rattle.scalar.proofs.Base.{Below, part-split, part-lt}
+use Rattle.rules.specs.Values.{number, limb, Below}
+use Rattle.scalar.proofs.Base.{part-split, part-lt}
 use Rattle.scalar.proofs.words.words.Statement.{statement}
 use Rattle.scalar.proofs.words.words.Tie as tie
 

@@ -1,19 +1,20 @@
 -- After i turns the first i rows have been passed.
 use mathlib.Core.Path.{_≡_}
-use Prim.Native.Nat.{_≤_, _-_}
+use Prim.Native.Nat.{_≤_, _+_, _-_}
 use native.Mathlib.Omega.{arith}
+use borrow.Author.Needs.{needs}
 use Rattle.straus.proofs.Walking.{row-long, passed, passed-none, passed-more, passed-all}
 use Rattle.straus.proofs.radix.column.Statement.{statement}
 use Rattle.straus.proofs.radix.column.Tie as tie
 
 abbrev Inv-loop : tie.InvT-loop
-Inv-loop digits limbs m j r₀ i₀ r i = (i ≤ m) × (r ≡ passed digits limbs j r₀ i)
+Inv-loop digits limbs m j additions₀ r₀ i₀ additions r i = (i ≤ m) × (r ≡ passed digits limbs j r₀ i) × (additions ≡ additions₀ + i)
 
 abbrev μ-loop : tie.MeasureT-loop
-μ-loop digits limbs m j r₀ i₀ r i = m - i
+μ-loop digits limbs m j additions₀ r₀ i₀ additions r i = m - i
 
 loop-holds : tie.Need-loop-holds Inv-loop μ-loop
-loop-holds c = (omega arith, passed-none _ _ _ _)
+loop-holds c = (omega arith, passed-none _ _ _ _, omega arith)
 
 mul-a : tie.Need-mul-a Inv-loop μ-loop
 mul-a c = omega arith
@@ -53,6 +54,9 @@ added-requires c κs =
     let s = c .before .before .before in
     row-long _ (s .loop .i) (c .before .before .before .before .before .args .m) _ (c .before .before .before .before .before .pre .0 .digits) (omega arith) (c .before .before .before .before .before .pre .1)
 
+add-additions : tie.Need-add-additions Inv-loop μ-loop
+add-additions c = search needs
+
 add-i : tie.Need-add-i Inv-loop μ-loop
 add-i c = omega arith
 
@@ -60,10 +64,10 @@ loop-less : tie.Need-loop-less Inv-loop μ-loop
 loop-less c = omega arith
 
 loop-again : tie.Need-loop-again Inv-loop μ-loop
-loop-again c = (omega arith, passed-more _ _ _ _ _ (c .before .before .before .before .loop .inv .1) (c .added .ensures))
+loop-again c = (omega arith, passed-more _ _ _ _ _ (c .before .before .before .before .before .loop .inv .1) (c .before .added .ensures), omega (arith, c .before .before .before .before .before .loop .inv .2))
 
 returns : tie.Need-returns Inv-loop μ-loop
-returns c = passed-all _ _ _ _ _ _ (c .before .loop .inv .0) (c .loop-test .left) (c .before .loop .inv .1)
+returns c = (passed-all _ _ _ _ _ _ (c .before .loop .inv .0) (c .loop-test .left) (c .before .loop .inv .1), omega (arith, c .before .loop .inv .2))
 
 pub column-spec : {M : Type 1} → statement M
 column-spec =
@@ -84,6 +88,7 @@ column-spec =
     part-added-start-2
     part-added-end-2
     added-requires
+    add-additions
     add-i
     loop-less
     loop-again

@@ -23,20 +23,20 @@ sub-j c = omega arith
 mul-by-pow-2-requires : tie.Need-mul-by-pow-2-requires Inv-loop μ-loop
 mul-by-pow-2-requires c κs = search needs
 
-column-requires : tie.Need-column-requires Inv-loop μ-loop
-column-requires c κs = let s = c .before .before in (s .before .before .before .pre, omega (arith, s .loop .inv .place))
-
-add-additions : tie.Need-add-additions Inv-loop μ-loop
-add-additions c = let s = c .before .before .before in omega (arith, additions-fit _ _ _ (s .loop .inv) (omega arith), s .before .before .before .pre .few)
-
 add-doublings : tie.Need-add-doublings Inv-loop μ-loop
-add-doublings c = omega (arith, c .before .before .before .loop .inv .doubled-so-far)
+add-doublings c = omega (arith, c .before .before .loop .inv .doubled-so-far)
+
+column-requires : tie.Need-column-requires Inv-loop μ-loop
+column-requires c κs =
+    let s = c .before .before .before in
+    let p = s .before .before .before .pre in
+    (p, omega (arith, s .loop .inv .place), omega (arith, additions-fit _ _ _ (s .loop .inv) (omega arith), p .few))
 
 loop-less : tie.Need-loop-less Inv-loop μ-loop
 loop-less c = omega arith
 
 loop-again : tie.Need-loop-again Inv-loop μ-loop
-loop-again c = walking-more _ _ _ (c .before .before .before .loop .inv) (omega arith) (c .before .mul-by-pow-2 .ensures) (c .column .ensures)
+loop-again c = walking-more _ _ _ (c .before .before .before .before .loop .inv) (omega arith) (c .before .before .mul-by-pow-2 .ensures) (c .column .ensures)
 
 returns : tie.Need-returns Inv-loop μ-loop
 returns c = walking-end _ _ _ (c .before .loop .inv) (c .loop-test .left)
@@ -51,9 +51,8 @@ walk-spec =
     loop-holds
     sub-j
     mul-by-pow-2-requires
-    column-requires
-    add-additions
     add-doublings
+    column-requires
     loop-less
     loop-again
     returns)

@@ -2,8 +2,8 @@
 use native.Mathlib.Omega.{arith}
 use Rattle.pippenger.proofs.Walking.{wide}
 use borrow.Author.Needs.{needs}
-use Rattle.pippenger.proofs.walk.places.Statement.{statement}
-use Rattle.pippenger.proofs.walk.places.Tie as tie
+use Rattle.pippenger.proofs.walk.digits_count.Statement.{statement}
+use Rattle.pippenger.proofs.walk.digits_count.Tie as tie
 
 div-result : tie.Need-div-result
 div-result c = search needs
@@ -14,5 +14,5 @@ add-result c = omega (arith, wide (c .args .w) (c .pre .0) (c .pre .1))
 returns : tie.Need-returns
 returns c = wide (c .args .w) (c .pre .0) (c .pre .1) .places
 
-pub places-spec : {M : Type 1} → statement M
-places-spec = tie.close (tie.spec div-result add-result returns)
+pub digits-count-spec : {M : Type 1} → statement M
+digits-count-spec = tie.close (tie.spec div-result add-result returns)
