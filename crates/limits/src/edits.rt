@@ -156,7 +156,7 @@ fn clear(t: Tally, case: &[u8], m: Slot, number: u8) -> Tally {
     tally::expect_number(t, b"clear", case, r.number, number, counts_right(r) & kept)
 }
 
-// A slot set and cleared, refused by its memory alone.
+// A slot set, and cleared in memory of its own; both answer this number.
 fn both(t: Tally, case: &[u8], m: Slot, number: u8) -> Tally {
     let t = set(t, case, m, byte(1), small(1), number);
     clear(t, case, m, number)

@@ -82,7 +82,7 @@ fn lengths(t: Tally) -> Tally {
     )
 }
 
-// The same of one element.
+// The same of one element, and one at L and above.
 fn lengths_of_one(t: Tally) -> Tally {
     let s = small(1);
     let t = one(t, b"no limbs", of_limbs(s, 0), 1);

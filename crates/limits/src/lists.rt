@@ -87,6 +87,25 @@ pub(crate) fn put_limb(list: &mut [u64], i: usize, v: u64) {
     }
 }
 
+// The limb of a place, 0 where there is none.
+fn limb(list: &[u64], i: usize) -> u64 {
+    if i < list.len() { list[i] } else { 0 }
+}
+
+// Element i, zeros where there is none.
+pub(crate) fn element(list: &[u64], i: usize) -> [u64; 4] {
+    if i < 100000 {
+        let k = 4 * i;
+        return [
+            limb(list, k),
+            limb(list, k + 1),
+            limb(list, k + 2),
+            limb(list, k + 3),
+        ];
+    }
+    [0u64; 4]
+}
+
 // A digit into its place, where there is one.
 pub(crate) fn put_digit(list: &mut [i8], i: usize, v: i8) {
     if i < list.len() {

@@ -65,13 +65,44 @@ fn name(kind: Kind) {
     }
 }
 
-// One window of a point: a refused one is zeros.
+// The limbs of a window.
+fn size(kind: Kind) -> usize {
+    match kind {
+        Kind::Radix => 32,
+        Kind::Naf5 => 32,
+        Kind::Naf8 => 256,
+    }
+}
+
+// Whether entry i is L - v.
+fn is_less(list: &[u64], i: usize, v: u8) -> bool {
+    let e = lists::element(list, i);
+    tally::same_value(e, value(less(v)))
+}
+
+// Whether the last entry of the window of L - 1 is right: 8, 15 or 127 times that.
+fn last_right(kind: Kind, list: &[u64]) -> bool {
+    match kind {
+        Kind::Radix => is_less(list, 7, 8),
+        Kind::Naf5 => is_less(list, 7, 15),
+        Kind::Naf8 => is_less(list, 63, 127),
+    }
+}
+
+// Whether a window is right beside its number: a done one is that of L - 1, a refused one is zeros.
+fn window_right(kind: Kind, number: u8, list: &[u64]) -> bool {
+    if number != 0 {
+        return lists::cleared_limbs(list) == size(kind);
+    }
+    is_less(list, 0, 1) & last_right(kind, list)
+}
+
+// One window of a point.
 fn window(t: Tally, kind: Kind, case: &[u8], p: Limbs, number: u8) -> Tally {
     let x = [p.l0, p.l1, p.l2, p.l3, p.l0, p.l1, p.l2, p.l3];
     let mut list = [9u64; 256];
     let n = build(kind, lists::first_limbs(&x, p.len), &mut list);
-    let zeros = lists::cleared_limbs(&list);
-    let right = (n == 0) | (zeros == 32) | (zeros == 256);
+    let right = window_right(kind, n, &list);
     tally::text(b"window, ");
     name(kind);
     tally::expect_number(t, b"", case, n, number, right)
@@ -84,7 +115,7 @@ fn windows(t: Tally, case: &[u8], p: Limbs, number: u8) -> Tally {
     window(t, Kind::Naf8, case, p, number)
 }
 
-// Points that have no window.
+// Points that have no window, and L - 1, which has.
 fn points(t: Tally) -> Tally {
     let t = windows(t, b"no limbs", of_limbs(small(1), 0), 1);
     let t = windows(t, b"3 limbs", of_limbs(small(1), 3), 1);
@@ -106,15 +137,6 @@ fn looked(kind: Kind, p: Limbs, len: usize, over: usize, d: i8) -> Value {
     lookup(kind, lists::first_limbs(&list, len), d)
 }
 
-// The limbs of a window.
-fn size(kind: Kind) -> usize {
-    match kind {
-        Kind::Radix => 32,
-        Kind::Naf5 => 32,
-        Kind::Naf8 => 256,
-    }
-}
-
 // One lookup in the window of 1.
 fn select(t: Tally, kind: Kind, case: &[u8], d: i8, want: Seen) -> Tally {
     let r = looked(kind, small(1), size(kind), lists::nowhere(), d);
@@ -131,25 +153,26 @@ fn sized(t: Tally, kind: Kind, case: &[u8], len: usize, d: i8) -> Tally {
     tally::expect(t, b"", case, tally::of_value(r), refused(1))
 }
 
-// Whether each of the first n entries at L is refused by 10.
-fn each_refused(kind: Kind, n: usize) -> bool {
+// With each of the first n entries at L in turn, the first answer that is no refusal by 10; that refusal where there is none.
+fn each_refused(kind: Kind, n: usize) -> Seen {
     let mut i: usize = 0;
     while i < n {
         let r = looked(kind, small(1), size(kind), i, 1);
-        if r.number != 10 {
-            return false;
+        let s = tally::of_value(r);
+        if !tally::same(s, refused(10)) {
+            return s;
         }
         i += 1;
     }
-    true
+    refused(10)
 }
 
 // One entry at L, in each place.
 fn entries(t: Tally, kind: Kind, n: usize) -> Tally {
-    let right = each_refused(kind, n);
+    let s = each_refused(kind, n);
     tally::text(b"select, ");
     name(kind);
-    tally::expect_number(t, b"", b"an entry at L in each place", 10, 10, right)
+    tally::expect(t, b"", b"an entry at L in each place", s, refused(10))
 }
 
 // Windows that are not whole.
@@ -193,6 +216,7 @@ fn naf5_digits(t: Tally) -> Tally {
     let t = select(t, Kind::Naf5, b"digit 8", 8, refused(10));
     let t = select(t, Kind::Naf5, b"digit 9", 9, gives(value(small(9))));
     let t = select(t, Kind::Naf5, b"digit 15", 15, gives(value(small(15))));
+    let t = select(t, Kind::Naf5, b"digit 17", 17, refused(10));
     let t = select(t, Kind::Naf5, b"digit 127", 127, refused(10));
     entries(t, Kind::Naf5, 8)
 }

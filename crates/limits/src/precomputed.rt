@@ -170,11 +170,13 @@ fn short(t: Tally) -> Tally {
     let t = no(
         t,
         b"a static scalar at 2^255",
-        spoilt(s, 1, 1000000),
+        spoilt(s, 1, nowhere()),
         two,
         6,
     );
     let t = no(t, b"a dynamic scalar at 2^255", s, big(two, 1), 6);
+    let more = lists(two, 64, 4, 1);
+    let t = no(t, b"2^255 past the points", s, big(more, 1), 6);
     no(t, b"both 6 and 7", s, over(big(two, 1), 0), 6)
 }
 
@@ -184,18 +186,14 @@ fn points(t: Tally) -> Tally {
     let two = pairs(2, 1024, 64);
     let absent = flagged(two, 1, 0);
     let more = sized(s, 256, 64);
+    let fewer = lists(two, 32, 8, 2);
     let t = no(t, b"a point at L", s, over(two, 1), 7);
+    let t = no(t, b"L past the scalars", s, over(fewer, 1), 7);
     let t = no(t, b"flag 2", s, flagged(two, 0, 2), 7);
     let t = no(t, b"flag 255", s, flagged(two, 1, 255), 7);
     let t = no(t, b"both 7 and 8", s, over(absent, 0), 7);
     let t = no(t, b"an absent point", s, absent, 8);
-    let t = no(
-        t,
-        b"absent past the scalars",
-        s,
-        flagged(lists(two, 32, 8, 2), 1, 0),
-        8,
-    );
+    let t = no(t, b"absent past the scalars", s, flagged(fewer, 1, 0), 8);
     let t = no(
         t,
         b"wild limbs behind an absent flag",
@@ -220,14 +218,20 @@ fn tables(t: Tally) -> Tally {
         9,
     );
     let t = no(t, b"more scalars than points", s, lists(two, 64, 4, 1), 9);
-    let t = no(t, b"both 9 and 10", spoilt(more, 1000000, 0), two, 9);
-    let t = no(t, b"the first entry at L", spoilt(s, 1000000, 0), two, 10);
-    let t = no(t, b"the last entry at L", spoilt(s, 1000000, 127), two, 10);
+    let t = no(t, b"both 9 and 10", spoilt(more, nowhere(), 0), two, 9);
+    let t = no(t, b"the first entry at L", spoilt(s, nowhere(), 0), two, 10);
+    let t = no(
+        t,
+        b"the last entry at L",
+        spoilt(s, nowhere(), 127),
+        two,
+        10,
+    );
     let fewer = sized(s, 512, 32);
     no(
         t,
         b"L in a table that no scalar names",
-        spoilt(fewer, 1000000, 64),
+        spoilt(fewer, nowhere(), 64),
         two,
         10,
     )

@@ -80,6 +80,7 @@ fn whole(t: Tally) -> Tally {
         counts(1063, 7168, 1024),
     );
     let t = no(t, b"scalars a byte short", lists(two, 63, 8, 2), 1);
+    let t = no(t, b"scalars a byte long", lists(two, 65, 8, 2), 1);
     let t = no(t, b"points a limb short", lists(two, 64, 7, 2), 1);
     let t = no(t, b"points a limb long", lists(two, 64, 9, 2), 1);
     let t = no(t, b"a flag short", lists(two, 64, 8, 1), 1);
@@ -102,7 +103,19 @@ fn long(t: Tally) -> Tally {
     no(t, b"both 5 and 6", big(room(two, 511, 64), 0), 5)
 }
 
-// Refusals 6 to 9, alone and with the next.
+// Refusals 6 to 8 past the shorter list, where 9 would follow, and 9 itself.
+fn past(t: Tally) -> Tally {
+    let two = pairs(2, 512, 64);
+    let more = lists(two, 64, 4, 1);
+    let fewer = lists(two, 64, 12, 3);
+    let t = no(t, b"2^255 past the points", big(more, 1), 6);
+    let t = no(t, b"L past the scalars", over(fewer, 2), 7);
+    let t = no(t, b"absent past the scalars", flagged(fewer, 2, 0), 8);
+    let t = no(t, b"more scalars than points", more, 9);
+    no(t, b"fewer scalars than points", fewer, 9)
+}
+
+// Refusals 6 to 8, alone and with the next.
 fn contents(t: Tally) -> Tally {
     let two = pairs(2, 512, 64);
     let absent = flagged(two, 1, 0);
@@ -114,14 +127,13 @@ fn contents(t: Tally) -> Tally {
     let t = no(t, b"both 7 and 8", over(absent, 0), 7);
     let t = no(t, b"an absent point", absent, 8);
     let t = no(t, b"wild limbs behind an absent flag", over(absent, 1), 8);
-    let t = no(t, b"both 8 and 9", lists(absent, 64, 12, 3), 8);
-    let t = no(t, b"more scalars than points", lists(two, 64, 4, 1), 9);
-    no(t, b"fewer scalars than points", lists(two, 64, 12, 3), 9)
+    no(t, b"both 8 and 9", lists(absent, 64, 12, 3), 8)
 }
 
 // Every check of preparing.
 pub(crate) fn all(t: Tally) -> Tally {
     let t = whole(t);
     let t = long(t);
-    contents(t)
+    let t = contents(t);
+    past(t)
 }

@@ -129,6 +129,10 @@ fn naf_rows(t: Tally) -> Tally {
     let t = naf(t, b"two neighbours", digits(0, 1, 4, 1), 5, 10, none);
     let t = naf(t, b"the sum is -1", digit(0, -1), 5, 10, none);
     let t = naf(t, b"the sum is 2^255", digit(255, 1), 5, 10, none);
+    let t = naf(t, b"digit 3", digit(0, 3), 3, 0, byte(3));
+    let t = naf(t, b"digit 7", digit(0, 7), 4, 0, byte(7));
+    let t = naf(t, b"digit 31", digit(0, 31), 6, 0, byte(31));
+    let t = naf(t, b"digit 63", digit(0, 63), 7, 0, byte(63));
     let t = naf(t, b"digit 127", digit(0, 127), 8, 0, byte(127));
     let t = naf(t, b"two w places apart", digits(0, 1, 5, 1), 5, 0, byte(33));
     let t = naf(t, b"2^254", digit(254, 1), 2, 0, top(64));
@@ -147,6 +151,9 @@ fn radix_rows(t: Tally) -> Tally {
     let t = radix(t, b"the sum is 2^255", digits(31, -128, 32, 1), 8, 10, none);
     let t = radix(t, b"past the used places", digit(52, 1), 5, 10, none);
     let t = radix(t, b"digit 127", digit(0, 127), 8, 0, byte(127));
+    let t = radix(t, b"digit -16 and 1", digits(0, -16, 1, 1), 5, 0, byte(16));
+    let t = radix(t, b"digit -32 and 1", digits(0, -32, 1, 1), 6, 0, byte(32));
+    let t = radix(t, b"digit -64 and 1", digits(0, -64, 1, 1), 7, 0, byte(64));
     let t = radix(
         t,
         b"digit -128 and 1",

@@ -116,7 +116,7 @@ pub(crate) fn same_value(a: [u64; 4], b: [u64; 4]) -> bool {
 }
 
 // Whether two answers are the same.
-fn same(a: Seen, b: Seen) -> bool {
+pub(crate) fn same(a: Seen, b: Seen) -> bool {
     let v = a.value;
     let w = b.value;
     let counts = (a.additions == b.additions) & (a.doublings == b.doublings);

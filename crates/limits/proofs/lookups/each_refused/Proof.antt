@@ -22,6 +22,15 @@ size-requires c κs = search needs
 looked-requires : tie.Need-looked-requires Inv-loop μ-loop
 looked-requires c κs = search needs
 
+of-value-requires : tie.Need-of-value-requires Inv-loop μ-loop
+of-value-requires c κs = search needs
+
+refused-requires : tie.Need-refused-requires Inv-loop μ-loop
+refused-requires c κs = search needs
+
+same-requires : tie.Need-same-requires Inv-loop μ-loop
+same-requires c κs = search needs
+
 returns : tie.Need-returns Inv-loop μ-loop
 returns c = search needs
 
@@ -33,6 +42,9 @@ loop-less c = search needs
 
 loop-again : tie.Need-loop-again Inv-loop μ-loop
 loop-again c = search needs
+
+refused-requires-2 : tie.Need-refused-requires-2 Inv-loop μ-loop
+refused-requires-2 c κs = search needs
 
 returns-2 : tie.Need-returns-2 Inv-loop μ-loop
 returns-2 c = search needs
@@ -47,8 +59,12 @@ each-refused-spec =
     small-requires
     size-requires
     looked-requires
+    of-value-requires
+    refused-requires
+    same-requires
     returns
     add-i
     loop-less
     loop-again
+    refused-requires-2
     returns-2)
