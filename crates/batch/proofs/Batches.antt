@@ -34,7 +34,7 @@ use Rattle.lent.proofs.Passed.{there-under}
 use Rattle.answer.proofs.Answers.{refused-counted, done-counted, done-sum}
 use Rattle.limbs.proofs.Elements.{Ranged}
 use Rattle.window.proofs.Flat.{odd-limbs, limbs-length}
-use Rattle.lent.proofs.Puts.{put-stored}
+use Rattle.room.proofs.Puts.{put-stored}
 use Rattle.laws.specs.NafRows.{naf-length}
 use Rattle.batch.specs.Edge.{edgeRefusal}
 use Rattle.columns.proofs.Walked.{rows-are, walked-entries}

@@ -17,7 +17,7 @@ use Rattle.rules.specs.Helpers.{elementsFlat, Made, madeOdd, windowedRows, Fill
 use Rattle.laws.specs.Parts.{part-is, part-length}
 use Rattle.laws.specs.NafRows.{naf-length}
 use Rattle.laws.specs.Laid.{laid, laid-none, laid-turn, laid-length}
-use Rattle.lent.proofs.Puts.{put-same}
+use Rattle.room.proofs.Puts.{put-same}
 use Rattle.window.proofs.Flat.{elements-length}
 
 abbrev slot : Counts → List ℤ → List ℕ → Filled

@@ -117,7 +117,7 @@ pub fn fill_slot(scalar: &[u8], point: Element, row: &mut [i8], window: &mut [u6
     ensures { λ r. ⌜ _≡_ {A = Filled} (record { counts = r; digits = now (row .exit); windows = now (window .exit) }) (filledSlot (now (scalar .entry)) point (now (row .entry)) (now (window .entry))) ⌝ }
 {
     let digits = scalar::naf_row(scalar, 5);
-    lent::room::copy_digits(&mut *row, &digits);
+    room::copy_digits(&mut *row, &digits);
     window::make_odd8(point, &mut *window)
 }
 

@@ -86,16 +86,16 @@ use Rattle.lent.proofs.wild.Kinds as lent-wild-K
 use Rattle.lent.proofs.wild.Reads as lent-wild
 use Rattle.lent.proofs.any_wild.Kinds as lent-any-wild-K
 use Rattle.lent.proofs.any_wild.Reads as lent-any-wild
-use Rattle.lent.proofs.room.copy_digits.Kinds as lent-copy-digits-K
-use Rattle.lent.proofs.room.copy_digits.Reads as lent-copy-digits
-use Rattle.lent.proofs.room.copy_window8.Kinds as lent-copy-window8-K
-use Rattle.lent.proofs.room.copy_window8.Reads as lent-copy-window8
-use Rattle.lent.proofs.room.copy_window64.Kinds as lent-copy-window64-K
-use Rattle.lent.proofs.room.copy_window64.Reads as lent-copy-window64
-use Rattle.lent.proofs.room.clear_digits.Kinds as lent-clear-digits-K
-use Rattle.lent.proofs.room.clear_digits.Reads as lent-clear-digits
-use Rattle.lent.proofs.room.clear_limbs.Kinds as lent-clear-limbs-K
-use Rattle.lent.proofs.room.clear_limbs.Reads as lent-clear-limbs
+use Rattle.room.proofs.copy_digits.Kinds as room-copy-digits-K
+use Rattle.room.proofs.copy_digits.Reads as room-copy-digits
+use Rattle.room.proofs.copy_window8.Kinds as room-copy-window8-K
+use Rattle.room.proofs.copy_window8.Reads as room-copy-window8
+use Rattle.room.proofs.copy_window64.Kinds as room-copy-window64-K
+use Rattle.room.proofs.copy_window64.Reads as room-copy-window64
+use Rattle.room.proofs.clear_digits.Kinds as room-clear-digits-K
+use Rattle.room.proofs.clear_digits.Reads as room-clear-digits
+use Rattle.room.proofs.clear_limbs.Kinds as room-clear-limbs-K
+use Rattle.room.proofs.clear_limbs.Reads as room-clear-limbs
 
 -- digit
 pub one-digit-magnitude : One 0 digit-magnitude-K.ps digit-magnitude-K.r digit-magnitude.Post
@@ -228,17 +228,17 @@ one-lent-wild κs a r r′ s s′ p q = p ∙ sym q
 pub one-lent-any-wild : One 1 lent-any-wild-K.ps lent-any-wild-K.r lent-any-wild.Post
 one-lent-any-wild κs a r r′ s s′ p q = p ∙ sym q
 
-pub one-lent-copy-digits : Whole 2 lent-copy-digits-K.ps lent-copy-digits-K.r lent-copy-digits.Post (λ κs r s. now (s .0))
-one-lent-copy-digits κs a r r′ s s′ p q = p ∙ sym q
+pub one-room-copy-digits : Whole 2 room-copy-digits-K.ps room-copy-digits-K.r room-copy-digits.Post (λ κs r s. now (s .0))
+one-room-copy-digits κs a r r′ s s′ p q = p ∙ sym q
 
-pub one-lent-copy-window8 : Whole 1 lent-copy-window8-K.ps lent-copy-window8-K.r lent-copy-window8.Post (λ κs r s. now (s .0))
-one-lent-copy-window8 κs a r r′ s s′ p q = p ∙ sym q
+pub one-room-copy-window8 : Whole 1 room-copy-window8-K.ps room-copy-window8-K.r room-copy-window8.Post (λ κs r s. now (s .0))
+one-room-copy-window8 κs a r r′ s s′ p q = p ∙ sym q
 
-pub one-lent-copy-window64 : Whole 1 lent-copy-window64-K.ps lent-copy-window64-K.r lent-copy-window64.Post (λ κs r s. now (s .0))
-one-lent-copy-window64 κs a r r′ s s′ p q = p ∙ sym q
+pub one-room-copy-window64 : Whole 1 room-copy-window64-K.ps room-copy-window64-K.r room-copy-window64.Post (λ κs r s. now (s .0))
+one-room-copy-window64 κs a r r′ s s′ p q = p ∙ sym q
 
-pub one-lent-clear-digits : Whole 1 lent-clear-digits-K.ps lent-clear-digits-K.r lent-clear-digits.Post (λ κs r s. now (s .0))
-one-lent-clear-digits κs a r r′ s s′ p q = p ∙ sym q
+pub one-room-clear-digits : Whole 1 room-clear-digits-K.ps room-clear-digits-K.r room-clear-digits.Post (λ κs r s. now (s .0))
+one-room-clear-digits κs a r r′ s s′ p q = p ∙ sym q
 
-pub one-lent-clear-limbs : Whole 1 lent-clear-limbs-K.ps lent-clear-limbs-K.r lent-clear-limbs.Post (λ κs r s. now (s .0))
-one-lent-clear-limbs κs a r r′ s s′ p q = p ∙ sym q
+pub one-room-clear-limbs : Whole 1 room-clear-limbs-K.ps room-clear-limbs-K.r room-clear-limbs.Post (λ κs r s. now (s .0))
+one-room-clear-limbs κs a r r′ s s′ p q = p ∙ sym q

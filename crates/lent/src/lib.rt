@@ -6,8 +6,6 @@ ghost use Rattle.rules.specs.Windows.{anyOver};
 ghost use Rattle.rules.specs.Lists.{notIn, beyondMost, listsNotWhole, listsTooMany, anyBig, anyFlag, pointOver, anyPoint, badLists, absentBelow, wildDigit, anyWild};
 use rules::OptionalPoint;
 
-pub mod room;
-
 // 2: the most scalars, points or slots.
 pub const MOST: usize = 1024;
 

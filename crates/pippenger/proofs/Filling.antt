@@ -13,7 +13,7 @@ use Rattle.rules.specs.Lists.{put}
 use Rattle.laws.specs.RadixRows.{radix-length}
 use Rattle.laws.specs.Parts.{part-is, part-length}
 use Rattle.laws.specs.Laid.{laid, laid-turn, laid-length}
-use Rattle.lent.proofs.Puts.{put-part}
+use Rattle.room.proofs.Puts.{put-part}
 
 -- the row of scalar i
 abbrev pub rowOf : List ℕ → ℕ → ℕ → List ℤ

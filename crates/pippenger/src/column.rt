@@ -107,7 +107,7 @@ pub(crate) fn column(
     requires { ⌜ Placed (now digits) (now points) m j (4 * n) × ((1 < n) × (4 * n ≤ length (now buckets))) ⌝ }
     ensures { λ r. ⌜ ColumnMade (now (digits .entry)) (now (points .entry)) m j n (now (buckets .entry)) (now (buckets .exit)) r ⌝ }
 {
-    lent::room::clear_limbs(&mut *buckets, 4 * n);
+    room::clear_limbs(&mut *buckets, 4 * n);
     let put = put_all(digits, points, m, j, &mut *buckets);
     let s = sum_buckets(buckets, n);
     let element = s.element;

@@ -83,7 +83,7 @@ fn fill(scalars: &[u8], m: usize, w: usize, digits: &mut [i8])
         let a = 64 * i;
         let e = a + 64;
         let row = scalar::radix_row(&scalars[s..t], w);
-        lent::room::copy_digits(&mut digits[a..e], &row);
+        room::copy_digits(&mut digits[a..e], &row);
         i += 1;
     }
 }
@@ -106,8 +106,8 @@ pub fn optional_multiscalar_mul(
     let w = width(picked_by(scalars, points));
     fill(scalars, m, w, &mut *digits);
     let q = walk(digits, points, m, w, &mut *buckets);
-    lent::room::clear_digits(&mut *digits, 64 * m);
-    lent::room::clear_limbs(&mut *buckets, 4 * buckets_count(w));
+    room::clear_digits(&mut *digits, 64 * m);
+    room::clear_limbs(&mut *buckets, 4 * buckets_count(w));
     let e = q.element;
     answer::sum(e, q.additions, q.doublings)
 }

@@ -16,7 +16,7 @@ use Rattle.rules.specs.Helpers.{elementsFlat, Made, madeOdd}
 use Rattle.laws.specs.Parts.{part-is, part-length}
 use Rattle.laws.specs.NafRows.{naf-length}
 use Rattle.laws.specs.Laid.{laid, laid-none, laid-turn, laid-length, laid-all}
-use Rattle.lent.proofs.Puts.{put-same}
+use Rattle.room.proofs.Puts.{put-same}
 use Rattle.window.proofs.Flat.{elements-length}
 use Rattle.precomputed_straus.specs.Fill.{tableOf, madeTables, rowOf, staticRows}
 

@@ -42,7 +42,7 @@ pub(crate) fn rows(scalars: &[u8], digits: &mut [i8])
         let a = 256 * i;
         let e = a + 256;
         let row = scalar::naf_row(&scalars[s..t], 8);
-        lent::room::copy_digits(&mut digits[a..e], &row);
+        room::copy_digits(&mut digits[a..e], &row);
         i += 1;
     }
 }

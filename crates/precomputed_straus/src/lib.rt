@@ -82,7 +82,7 @@ pub fn optional_mixed_multiscalar_mul(
         &mut digits[..e],
         &mut limbs[..f],
     );
-    lent::room::clear_digits(&mut *digits, e);
-    lent::room::clear_limbs(&mut *limbs, f);
+    room::clear_digits(&mut *digits, e);
+    room::clear_limbs(&mut *limbs, f);
     answer::sum(w.element, w.additions, w.doublings)
 }

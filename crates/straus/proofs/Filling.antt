@@ -16,7 +16,7 @@ use Rattle.rules.specs.Helpers.{elementsFlat, Made, madeSuccessive, Filled}
 use Rattle.laws.specs.Parts.{part-is}
 use Rattle.laws.specs.Laid.{laid, laid-none, laid-turn, laid-length}
 use Rattle.laws.specs.RadixRows.{radix-length}
-use Rattle.lent.proofs.Puts.{put-part}
+use Rattle.room.proofs.Puts.{put-part}
 use Rattle.window.proofs.Flat.{elements-length}
 use Rattle.straus.specs.Radix.{Rows, rowOf, windowOf, radixFilled}
 

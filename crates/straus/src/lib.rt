@@ -17,8 +17,8 @@ pub fn multiscalar_mul(scalars: &[u8], points: &[u64], digits: &mut [i8], limbs:
     let m = lent::smaller(scalars.len() / 32, points.len() / 4);
     let made = crate::radix::fill(scalars, points, m, &mut *digits, &mut *limbs);
     let w = crate::radix::walk(digits, limbs, m);
-    lent::room::clear_digits(&mut *digits, 64 * m);
-    lent::room::clear_limbs(&mut *limbs, 32 * m);
+    room::clear_digits(&mut *digits, 64 * m);
+    room::clear_limbs(&mut *limbs, 32 * m);
     answer::sum(
         w.element,
         made.additions + w.additions,
@@ -47,8 +47,8 @@ pub fn optional_multiscalar_mul(
     let rows = &digits[..e];
     let windows = &limbs[..f];
     let w = columns::walk(rows, windows, &rows[..0], &windows[..0], 256);
-    lent::room::clear_digits(&mut *digits, e);
-    lent::room::clear_limbs(&mut *limbs, f);
+    room::clear_digits(&mut *digits, e);
+    room::clear_limbs(&mut *limbs, f);
     answer::sum(
         w.element,
         made.additions + w.additions,

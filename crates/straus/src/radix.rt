@@ -61,7 +61,7 @@ pub(crate) fn fill(
         let a = 64 * i;
         let e = a + 64;
         let row = scalar::radix_row(&scalars[s..t], 4);
-        lent::room::copy_digits(&mut digits[a..e], &row);
+        room::copy_digits(&mut digits[a..e], &row);
         let made = window::make_successive(residue::element_at(points, i), &mut limbs[s..t]);
         additions += made.additions;
         doublings += made.doublings;

@@ -22,7 +22,7 @@ use Rattle.rules.specs.Engines.{singleRefusal, single}
 use Rattle.rules.specs.Helpers.{sumDone, elementsFlat, Made, madeSuccessive}
 use Rattle.laws.specs.Conditions.{or-split, first-none}
 use Rattle.answer.proofs.Answers.{done-sum}
-use Rattle.lent.proofs.Puts.{put-same}
+use Rattle.room.proofs.Puts.{put-same}
 use Rattle.lent.proofs.Passed.{small, under}
 use Rattle.window.proofs.Flat.{elements-length}
 use Rattle.window.proofs.RadixSums.{radix16-walked-from}

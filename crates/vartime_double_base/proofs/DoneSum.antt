@@ -24,7 +24,7 @@ use Rattle.rules.specs.Helpers.{elementsFlat, Made, madeOdd, walked}
 use Rattle.laws.specs.Conditions.{or-split}
 use Rattle.laws.specs.Answers.{first-done}
 use Rattle.laws.specs.Weight.{weight-le}
-use Rattle.lent.proofs.Puts.{put-same}
+use Rattle.room.proofs.Puts.{put-same}
 use Rattle.lent.proofs.Passed.{small, under}
 use Rattle.window.proofs.Flat.{elements-length}
 use Rattle.columns.proofs.Walked.{took}

@@ -14,7 +14,7 @@ use Rattle.rules.specs.Windows.{successive, odd, limbsFlat, pointRefusal}
 use Rattle.rules.specs.Helpers.{elementsFlat, madeSuccessive, madeOdd}
 use Rattle.residue.proofs.Members.{Member}
 use Rattle.residue.proofs.Answers.{point-member}
-use Rattle.lent.proofs.Puts.{put-same}
+use Rattle.room.proofs.Puts.{put-same}
 use Rattle.window.proofs.Flat.{read-ranged, elements-length, successive-limbs, odd-limbs}
 
 -- the window of a lent point that passed, put into zeros of its length

@@ -58,7 +58,7 @@ pub fn make_successive(p: Element, part: &mut [u64]) -> Counts
 {
     let mut additions: u64 = 0;
     let t = stepped8(p, p, &mut additions);
-    lent::room::copy_window8(&mut *part, t);
+    room::copy_window8(&mut *part, t);
     Counts {
         additions,
         doublings: 0,
@@ -72,7 +72,7 @@ pub fn make_odd8(p: Element, part: &mut [u64]) -> Counts
     let mut additions: u64 = 0;
     let s = residue::twice(p);
     let t = stepped8(p, s, &mut additions);
-    lent::room::copy_window8(&mut *part, t);
+    room::copy_window8(&mut *part, t);
     Counts {
         additions,
         doublings: 1,
@@ -86,7 +86,7 @@ pub fn make_odd64(p: Element, part: &mut [u64]) -> Counts
     let mut additions: u64 = 0;
     let s = residue::twice(p);
     let t = stepped64(p, s, &mut additions);
-    lent::room::copy_window64(&mut *part, t);
+    room::copy_window64(&mut *part, t);
     Counts {
         additions,
         doublings: 1,

@@ -1,6 +1,6 @@
 -- Buckets cleared, then filled, then summed.
 use mathlib.Core.Path.{refl, ap₂}
-use Prim.Native.Nat.{_+_}
+use Prim.Native.Nat.{ℕ, _+_}
 use native.Mathlib.Omega.{arith}
 use Rattle.pippenger.proofs.Buckets.{column-placed, column-is, column-cleared}
 use Rattle.pippenger.proofs.Running.{columnWeight-le}
@@ -39,7 +39,7 @@ returns c =
     let a = k .before .before .before .before in
     record {
       element = column-is (a .args .n) (a .args .buckets .now) (a .pre .0) (a .pre .1 .1) (k .clear-limbs .ensures) (a .pre .1 .0) (s .put-all .ensures .1) (c .before .before .sum-buckets .ensures .0);
-      additions = ap₂ _+_ (s .put-all .ensures .0) (c .before .before .sum-buckets .ensures .1 .0);
+      additions = ap₂ (λ (x y : ℕ). x + y) (s .put-all .ensures .0) (c .before .before .sum-buckets .ensures .1 .0);
       doublings = refl;
       kept = column-cleared (a .args .n) (a .args .buckets .now) (a .pre .0) (a .pre .1 .1) (k .clear-limbs .ensures) (s .put-all .ensures .1);
     }

@@ -5,18 +5,18 @@ use Prim.Native.Nat.{_≤_, _-_}
 use native.Mathlib.Omega.{arith}
 use lib.ListN.{length, take, drop}
 use Rattle.rules.specs.Lists.{joined}
-use Rattle.lent.proofs.Copies.{window-other, window-long, window-inside, window-turn, window-end}
-use Rattle.lent.proofs.room.copy_window8.Statement.{statement}
-use Rattle.lent.proofs.room.copy_window8.Tie as tie
+use Rattle.room.proofs.Copies.{window-other, window-long, window-inside, window-turn, window-end}
+use Rattle.room.proofs.copy_window64.Statement.{statement}
+use Rattle.room.proofs.copy_window64.Tie as tie
 
 abbrev Inv-loop : tie.InvT-loop
-Inv-loop part₀ window i₀ part i = (i ≤ 32) × (part ≡ take i (joined window) ++ drop i part₀)
+Inv-loop part₀ window i₀ part i = (i ≤ 256) × (part ≡ take i (joined window) ++ drop i part₀)
 
 abbrev μ-loop : tie.MeasureT-loop
-μ-loop part₀ window i₀ part i = 32 - i
+μ-loop part₀ window i₀ part i = 256 - i
 
 returns : tie.Need-returns Inv-loop μ-loop
-returns c = window-other 8 _ _ (c .before .good .1 .0) _ (c .if1 .taken)
+returns c = window-other 64 _ _ (c .before .good .1 .0) _ (c .if1 .taken)
 
 loop-holds : tie.Need-loop-holds Inv-loop μ-loop
 loop-holds c = (omega arith, refl)
@@ -37,7 +37,7 @@ mul-part-3 : tie.Need-mul-part-3 Inv-loop μ-loop
 mul-part-3 c = omega arith
 
 slice-write-part : tie.Need-slice-write-part Inv-loop μ-loop
-slice-write-part c = window-inside 8 _ _ (c .before .before .before .before .good .1 .0) _ (c .before .before .before .if1 .left) _ _ (c .before .before .loop .inv .1) (c .before .loop-test .taken)
+slice-write-part c = window-inside 64 _ _ (c .before .before .before .before .good .1 .0) _ (c .before .before .before .if1 .left) _ _ (c .before .before .loop .inv .1) (c .before .loop-test .taken)
 
 add-i : tie.Need-add-i Inv-loop μ-loop
 add-i c = omega arith
@@ -46,16 +46,16 @@ loop-less : tie.Need-loop-less Inv-loop μ-loop
 loop-less c = omega arith
 
 loop-again : tie.Need-loop-again Inv-loop μ-loop
-loop-again c = (omega arith, window-turn 8 _ _ (c .before .before .before .before .good .1 .0) _ (c .before .before .before .if1 .left) _ _ (c .before .before .loop .inv .1) (c .before .loop-test .taken))
+loop-again c = (omega arith, window-turn 64 _ _ (c .before .before .before .before .good .1 .0) _ (c .before .before .before .if1 .left) _ _ (c .before .before .loop .inv .1) (c .before .loop-test .taken))
 
 same-length : tie.Need-same-length Inv-loop μ-loop
-same-length c = window-long 8 _ _ (c .before .before .before .good .1 .0) _ (c .before .before .if1 .left) _ _ (c .before .loop .inv .1) (c .before .loop .inv .0)
+same-length c = window-long 64 _ _ (c .before .before .before .good .1 .0) _ (c .before .before .if1 .left) _ _ (c .before .loop .inv .1) (c .before .loop .inv .0)
 
 returns-2 : tie.Need-returns-2 Inv-loop μ-loop
-returns-2 c = window-end 8 _ _ (c .before .before .before .good .1 .0) _ (c .before .before .if1 .left) _ _ (c .before .loop .inv .1) (c .loop-test .left)
+returns-2 c = window-end 64 _ _ (c .before .before .before .good .1 .0) _ (c .before .before .if1 .left) _ _ (c .before .loop .inv .1) (c .loop-test .left)
 
-pub copy-window8-spec : {M : Type 1} → statement M
-copy-window8-spec =
+pub copy-window64-spec : {M : Type 1} → statement M
+copy-window64-spec =
     tie.close
     (tie.spec
     Inv-loop

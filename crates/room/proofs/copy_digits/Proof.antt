@@ -9,10 +9,10 @@ use mir.Facts.{toZ-ofZ}
 use mir.Syntax.{w8}
 use mir.Val.{SFits}
 use borrow.Author.Needs.{needs}
-use Rattle.lent.proofs.Copies.{copy-long, copy-inside, copy-turn, copy-end}
-use Rattle.lent.proofs.Puts.{put-other}
-use Rattle.lent.proofs.room.copy_digits.Statement.{statement}
-use Rattle.lent.proofs.room.copy_digits.Tie as tie
+use Rattle.room.proofs.Copies.{copy-long, copy-inside, copy-turn, copy-end}
+use Rattle.room.proofs.Puts.{put-other}
+use Rattle.room.proofs.copy_digits.Statement.{statement}
+use Rattle.room.proofs.copy_digits.Tie as tie
 
 abbrev Inv-loop : tie.InvT-loop
 Inv-loop part₀ row i₀ part i = (i ≤ length row) × (part ≡ take i row ++ drop i part₀)

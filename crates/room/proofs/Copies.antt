@@ -12,8 +12,8 @@ use denote.Plain.{UInt}
 use denote.Laws.{Is}
 use denote.Array.{Array}
 use Rattle.rules.specs.Lists.{put, joined}
-use Rattle.lent.proofs.Puts.{put-same, put-other}
-use Rattle.lent.proofs.Joined.{joined-length, joined-at, window-fours, window-count}
+use Rattle.room.proofs.Puts.{put-same, put-other}
+use Rattle.room.proofs.Joined.{joined-length, joined-at, window-fours, window-count}
 
 -- x is copied into a part l₀ of its length: at the place i the part l holds the first i of x
 module _ {A : Type 0} (x l₀ : List A) (h : length l₀ ≡ length x) (i : ℕ) (l : List A) (s : l ≡ take i x ++ drop i l₀) where

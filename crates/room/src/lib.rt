@@ -3,7 +3,7 @@ ghost use mathlib.Core.Path.{_≡_};
 ghost use lib.IntN.{pos};
 ghost use Rattle.rules.specs.Numbers.{cleared};
 ghost use Rattle.rules.specs.Lists.{put, joined};
-use crate::smaller;
+use lent::smaller;
 
 // A row into its part, which is untouched where it has another length.
 pub fn copy_digits(part: &mut [i8], row: &[i8])

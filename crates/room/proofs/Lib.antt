@@ -1,0 +1,4 @@
+pub mod Puts
+pub mod Joined
+mod Copies
+mod Clearing
