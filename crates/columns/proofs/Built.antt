@@ -13,12 +13,10 @@ use lib.Dec.{lit<, lit≤}
 use borrow.Author.Tests.{le-ltb}
 use Rattle.rules.specs.Values.{limb, number, valueOf, elementOf, part, flat, elementAt, pointAt, scalarAt}
 use Rattle.rules.specs.Group.{L, elements, residues}
-use Rattle.rules.specs.Numbers.{rowBound, scalarBound}
 use Rattle.rules.specs.Rows.{nafRow, widthOff, nafRowOf}
 use Rattle.rules.specs.Windows.{odd, limbsFlat, anyOver}
 use Rattle.rules.specs.Engines.{entryAt}
 use Rattle.rules.specs.Helpers.{elementsFlat, Filled, fillCount, filled}
-use Rattle.laws.specs.RadixRows.{scalar-has-row}
 use Rattle.laws.specs.Parts.{part-at, part-length, flat-ext}
 use Rattle.lent.proofs.Passed.{under}
 use Rattle.residue.proofs.Members.{value-in}
@@ -30,10 +28,6 @@ use Rattle.window.proofs.Flat.{read-ranged, odd-limbs}
 pub row-of : (w : ℕ) → 2 ≤ w → w ≤ 8 → (ss : List ℕ) (i : ℕ) → nafRowOf (part 32 i ss) w ≡ nafRow w (scalarAt ss i)
 unfolding nafRowOf widthOff scalarAt part
 row-of w lo hi ss i = rw (le-ltb w 2 lo, le-ltb 8 w hi) (ap (λ (l : List ℕ). nafRow w (number 256 l)) (take-take 32 32 (drop (32 * i) ss) (le-refl 32)))
-
--- a scalar that an engine takes has a row
-pub has-row : {s : ℕ} → s < scalarBound → s < rowBound
-has-row {s} h = scalar-has-row s h
 
 -- the windows of m points
 pub filled-windows : (ps : List ℕ) (n m : ℕ) → ((k : ℕ) → getD ps k 0 < limb) → ((i : ℕ) → i < m → pointAt ps i < L)

@@ -44,7 +44,7 @@ module _ (l : Pairs) (r : Ready l) where
   p i = pointAt (l .points) i
 
   scalar-small : (i : ℕ) → i < slots l → s i < rowBound
-  scalar-small i h = scalar-has-row (s i) (small (l .scalars) i (r .small) h)
+  scalar-small i h = scalar-has-row (small (l .scalars) i (r .small) h)
 
   point-under : (i : ℕ) → i < slots l → p i < L
   point-under i h = leb-false L (p i) (points-below l r i (omega (arith, r .equal)))

@@ -25,3 +25,4 @@ pub mod Parts
 pub mod Laid
 pub mod Ring
 pub mod RingMod
+pub mod Numerals

@@ -46,12 +46,6 @@ module _ {A : Type 0} (f : ℕ → A → A) where
       go (inr lt) again = ap (down f n) (h n (le-of-suc-le-suc lt) (lt-suc-self n)) ∙ again (le-of-suc-le-suc lt)
 
 module _ {A : Type 0} {f g : ℕ → A → A} where
-  -- equal steps
-  pub up-ext : (n : ℕ) (q : A) → ((i : ℕ) → i < n → (r : A) → f i r ≡ g i r) → up f n q ≡ up g n q
-  unfolding up
-  up-ext zero q h = refl
-  up-ext (suc n) q h = h n (lt-suc-self n) (up f n q) ∙ ap (g n) (up-ext n q (λ i p. h i (le-step p)))
-
   pub down-ext : (n : ℕ) (q : A) → ((j : ℕ) → j < n → (r : A) → f j r ≡ g j r) → down f n q ≡ down g n q
   unfolding down
   down-ext zero q h = refl

@@ -16,9 +16,9 @@ use Rattle.laws.specs.DigitsSum.{getD-zeros}
 use Rattle.laws.specs.Digits.{carry, carry-low, centred-window, centred-range, above-at, above-le, after, after-next}
 
 -- a scalar that the engines take has a row
-pub scalar-has-row : (s : ℕ) → s < scalarBound → s < rowBound
+pub scalar-has-row : {s : ℕ} → s < scalarBound → s < rowBound
 unfolding scalarBound rowBound
-scalar-has-row s h = h
+scalar-has-row h = h
 
 -- a fact of each width
 by-width : (P : ℕ → Type 0) → P 4 → P 5 → P 6 → P 7 → P 8 → (w : ℕ) → 4 ≤ w → w ≤ 8 → P w

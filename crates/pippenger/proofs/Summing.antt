@@ -2,16 +2,13 @@
 use mathlib.Core.Path.{_≡_, refl, sym, ap, _∙_}
 use mathlib.Core.List.{List}
 use Prim.Native.Nat.{ℕ, zero, suc, _+_, _-_, _*_, _%_, _^_, _<_, _≤_}
-use native.Mathlib.Nat.{lt-of-lt-of-le}
 use native.Mathlib.Omega.{arith}
 use lib.IntN.{ℤ, pos, natAbs}
 use lib.ListN.{length}
-use lib.Dec.{lit≤}
 use Rattle.rules.specs.declared.Element.{Element}
 use Rattle.rules.specs.Values.{valueOf, elementOf, part, elementAt, pointAt, scalarAt}
 use Rattle.rules.specs.Group.{L, residues, elements, sum, times, timesZ}
 use Rattle.rules.specs.Loops.{down, doubled, weight}
-use Rattle.rules.specs.Numbers.{rowBound, scalarBound}
 use Rattle.rules.specs.Rows.{digit, rowSum, usedPlaces, radixRow}
 use Rattle.rules.specs.Engines.{products, rowsDigit, bucketLimbs}
 use Rattle.laws.specs.Residues.{modulo-sum}
@@ -20,7 +17,7 @@ use Rattle.laws.specs.Weight.{weight-ext, weight-top}
 use Rattle.laws.specs.Places.{rowSum-top, radix-from}
 use Rattle.laws.specs.Buckets.{filled, bucketSum-ext, buckets-sum}
 use Rattle.laws.specs.Carried.{doubled-carry, filled-carry, bucketSum-carry}
-use Rattle.laws.specs.RadixRows.{radix-rest, radix-small}
+use Rattle.laws.specs.RadixRows.{scalar-has-row, radix-rest, radix-small}
 use Rattle.laws.specs.RowsRule.{radix-obeys}
 use Rattle.laws.specs.Laid.{laid, laid-part, laid-length}
 use Rattle.limbs.proofs.Elements.{whole, Ranged}
@@ -30,10 +27,6 @@ use Rattle.pippenger.specs.Flat.{digitAt, columnOf, turn, walkOf, walkAd
 use Rattle.pippenger.proofs.Walking.{wide}
 use Rattle.pippenger.proofs.Refusing.{Ready}
 use Rattle.pippenger.proofs.Filling.{rowOf, row-long}
-
-bound : scalarBound ≤ rowBound
-unfolding scalarBound rowBound
-bound = lit≤ tt
 
 -- what every turn makes true holds at the end
 ends : {A : Type 0} (P : A → Type 0) (f : ℕ → A → A) → ((j : ℕ) (q : A) → P (f j q)) → (n : ℕ) (q : A) → 0 < n → P (down f n q)
@@ -100,7 +93,7 @@ module _ {ss ps : List ℕ} {m w d b : ℕ} (h : Ready ss ps m w d b) (d₀ : Li
 
   digit-small : (i j : ℕ) → i < m → natAbs (digitAt ds i j) ≤ 2 ^ (w - 1)
   unfolding rowsDigit
-  digit-small i j p = rw (digit-is i j p) (radix-small w (omega (arith, h .low)) (h .high) (scalarAt ss i) (lt-of-lt-of-le (h .small i p) bound) j)
+  digit-small i j p = rw (digit-is i j p) (radix-small w (omega (arith, h .low)) (h .high) (scalarAt ss i) (scalar-has-row (h .small i p)) j)
 
   row-zero : (s j : ℕ) → usedPlaces w ≤ j → digit (radixRow w s) j ≡ pos 0
   row-zero s j le = radix-rest w (omega (arith, h .low)) (h .high) s j (omega arith)

@@ -15,12 +15,12 @@ use Rattle.rules.specs.Numbers.{cleared, roomAfter, summed, condition}
 use Rattle.rules.specs.Lists.{scalarCount, pointCount, shorter, otherThan, anyBig, anyFlag, anyPoint, badLists}
 use Rattle.rules.specs.Engines.{After, mixedConditions, mixedRefusal, mixed}
 use Rattle.rules.specs.Helpers.{sumDone}
+use Rattle.laws.specs.RadixRows.{scalar-has-row}
 use Rattle.laws.specs.Conditions.{or-split}
 use Rattle.laws.specs.Answers.{Rising, first-done}
 use Rattle.laws.specs.Room.{cleared-rest, room-refused, room-done}
 use Rattle.answer.proofs.Answers.{refused-sum, done-sum}
 use Rattle.lent.proofs.Passed.{small, there-under}
-use Rattle.columns.proofs.Built.{has-row}
 use Rattle.precomputed_straus.specs.Fill.{Ready, mixedWalk}
 use Rattle.precomputed_straus.proofs.Asked.{few-rows}
 
@@ -96,7 +96,7 @@ module _ (ts sss ss ps fs : List ℕ) (ds : List ℤ) (ls : List ℕ) where
       tabled = counts .0;
       rows = sym digits-part;
       windows = sym limbs-part;
-      small = λ i h. has-row (small ss i small-dynamic h);
+      small = λ i h. scalar-has-row (small ss i small-dynamic h);
       under = λ i h. there-under ps fs (pointCount ps) i (told 8) points-under (omega (arith, counts .1)) (omega (arith, counts .1));
       entries = told 10;
     }

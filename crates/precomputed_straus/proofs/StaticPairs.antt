@@ -16,6 +16,7 @@ use Rattle.rules.specs.Rows.{digit, nafRow}
 use Rattle.rules.specs.Windows.{odd, limbsFlat}
 use Rattle.rules.specs.Lists.{scalarCount, pointCount, anyBig}
 use Rattle.rules.specs.Engines.{products, rowsDigit, entrySum, entryAt, newRefusal, newTables, mixedRefusal, mixed}
+use Rattle.laws.specs.RadixRows.{scalar-has-row}
 use Rattle.laws.specs.Parts.{flat-length}
 use Rattle.laws.specs.NafRows.{naf-entry}
 use Rattle.laws.specs.Windows.{odd-in}
@@ -24,7 +25,6 @@ use Rattle.lent.proofs.Passed.{small, under}
 use Rattle.window.proofs.Flat.{limbs-length}
 use Rattle.columns.proofs.Entries.{entries-ext}
 use Rattle.columns.proofs.Slots.{slot-entries, slot-entry, filled-sum}
-use Rattle.columns.proofs.Built.{has-row}
 use Rattle.precomputed_straus.proofs.DoneTables.{points-under}
 use Rattle.precomputed_straus.proofs.DoneMixed.{small-static, counts}
 
@@ -52,7 +52,7 @@ module _ (sps ts : List ℕ) (built : newRefusal sps (length ts) ≡ 0) where
       ∙ entries-ext (rowsDigit (nafRow 8) sss) (rowsDigit (nafRow 8) sss) (entryAt 256 (flat tableOf (pointCount sps))) (entryAt 256 (flat tableOf q)) q 256 (λ i j a b. refl)
       (λ i j a b. same sss i j (omega (arith, le)) a)
       ∙ sym (slot-entries 8 (scalarAt sss) q (entryAt 256 (flat tableOf q)) 256))
-      ∙ filled-sum 8 (lit≤ tt) (scalarAt sss) (pointAt sps) q (λ i a. has-row (small sss i big a)) (λ i a. under sps i (points-under sps ts built) (omega (arith, le)))
+      ∙ filled-sum 8 (lit≤ tt) (scalarAt sss) (pointAt sps) q (λ i a. scalar-has-row (small sss i big a)) (λ i a. under sps i (points-under sps ts built) (omega (arith, le)))
     where
       same : (sss : List ℕ) (i j : ℕ) → i < pointCount sps → i < scalarCount sss
           → entryAt 256 (flat tableOf (pointCount sps)) i (oddEntry (digit (nafRow 8 (scalarAt sss i)) j)) ≡ entryAt 256 (flat tableOf (scalarCount sss)) i (oddEntry (digit (nafRow 8 (scalarAt sss i)) j))

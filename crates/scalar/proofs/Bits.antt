@@ -8,7 +8,7 @@ use lib.ListN.{getD, drop}
 use lib.Bits.{bitAnd, bitOr, and-mask, or-shifted-r}
 use lib.Pow.{shr-shr, shr-lt, shl-shr, field, high, low, mod-mod-pow, mod-pow-add, pow-add, pow-pos}
 use Rattle.rules.specs.Values.{number, limb, Below}
-use Rattle.scalar.proofs.Base.{number-at, number-from}
+use Rattle.laws.specs.Numerals.{number-at, number-from}
 
 -- the lowest j + k bits of a number that k bits of 0 were put below
 shifted : (x j k : ℕ) → x * 2 ^ k % 2 ^ (j + k) ≡ x % 2 ^ j * 2 ^ k

@@ -1,5 +1,4 @@
 -- Facts that several proofs of this crate cite.
-pub mod Base
 pub mod Bits
 pub mod Fronts
 pub mod Ints

@@ -17,7 +17,7 @@ use Rattle.laws.specs.NafRows.{naf-length}
 use Rattle.laws.specs.RadixRows.{radix-length}
 use Rattle.laws.specs.RowsRule.{naf-obeys, radix-obeys}
 use Rattle.laws.specs.RowsRead.{naf-reads, radix-reads}
-use Rattle.scalar.proofs.Base.{places-length, number-places}
+use Rattle.laws.specs.Numerals.{places-length, number-places}
 use Rattle.scalar.proofs.Fronts.{within, width-in, is-long, long-is, passed, readRefusal}
 use Rattle.scalar.proofs.Reading.{bound-room}
 

@@ -22,7 +22,7 @@ use Rattle.limbs.proofs.Elements.{Ranged, ranged-of, small}
 use Rattle.scalar.specs.Readers.{shapeRefusal, comparedRows}
 use Rattle.scalar.specs.Sums.{Whole, Says}
 use Rattle.scalar.specs.Words.{Words}
-use Rattle.scalar.proofs.Base.{places-length, places-at, places-below, number-places}
+use Rattle.laws.specs.Numerals.{places-length, places-at, places-below, number-places}
 use Rattle.scalar.proofs.Fronts.{readRefusal, read-none, read-found}
 use Rattle.scalar.proofs.Top.{top-test}
 

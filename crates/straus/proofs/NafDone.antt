@@ -106,7 +106,7 @@ module _ (ss ps fs : List ℕ) (ds : List ℤ) (ls : List ℕ) {m : ℕ} (em : m
           ∙ ap₂ (λ (x : List ℤ) (y : List ℕ). walked x y [] [] 256)
           (take-at d (drop (256 * m) ds) (256 * m) digits-back ∙ rows)
           (take-at l (drop (32 * m) ls) (32 * m) limbs-back ∙ windows)
-          ∙ walked-slots (scalarAt ss) (pointAt ps) m (λ i p. scalar-has-row (scalarAt ss i) (naf-ok .small-ones i p)) (naf-ok .members) [] [] 0 refl (λ i j p _. absurd (omega arith))
+          ∙ walked-slots (scalarAt ss) (pointAt ps) m (λ i p. scalar-has-row (naf-ok .small-ones i p)) (naf-ok .members) [] [] 0 refl (λ i j p _. absurd (omega arith))
           ∙ ap₂ (λ (v a : ℕ). took (elementOf (v % L)) a 256) (add-zero (products ss ps m)) (add-zero over)
 
       pub naf-counts : (c .additions + k .additions ≡ 7 * m + over) × (c .doublings + k .doublings ≡ 256 + m) × (over ≤ m * 256)

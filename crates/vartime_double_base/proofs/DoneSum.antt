@@ -21,6 +21,7 @@ use Rattle.rules.specs.Windows.{odd, limbsFlat, anyOver}
 use Rattle.rules.specs.Lists.{anyBig}
 use Rattle.rules.specs.Engines.{rowsDigit, doubleConditions, doubleRefusal, startPlace}
 use Rattle.rules.specs.Helpers.{elementsFlat, Made, madeOdd, walked}
+use Rattle.laws.specs.RadixRows.{scalar-has-row}
 use Rattle.laws.specs.Conditions.{or-split}
 use Rattle.laws.specs.Answers.{first-done}
 use Rattle.laws.specs.Weight.{weight-le}
@@ -29,7 +30,7 @@ use Rattle.lent.proofs.Passed.{small, under}
 use Rattle.window.proofs.Flat.{elements-length}
 use Rattle.columns.proofs.Walked.{took}
 use Rattle.columns.proofs.Slots.{walked-filled}
-use Rattle.columns.proofs.Built.{has-row, filled-windows}
+use Rattle.columns.proofs.Built.{filled-windows}
 use Rattle.vartime_double_base.proofs.Search.{above, start-inside}
 
 one-under : 1 < L
@@ -75,10 +76,10 @@ module _ (a p b : List ℕ) (passed : doubleRefusal a p b ≡ 0) where
   over = told 7
 
   row-a : (i : ℕ) → i < 1 → scalarAt a i < rowBound
-  row-a i h = has-row (small a i (small-both .0) (omega (arith, long)))
+  row-a i h = scalar-has-row (small a i (small-both .0) (omega (arith, long)))
 
   row-b : (i : ℕ) → i < 1 → scalarAt b i < rowBound
-  row-b i h = has-row (small b i (small-both .1) (omega (arith, long)))
+  row-b i h = scalar-has-row (small b i (small-both .1) (omega (arith, long)))
 
   point-in : (i : ℕ) → i < 1 → pointAt p i < L
   point-in i h = under p i over (omega (arith, long))

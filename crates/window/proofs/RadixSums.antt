@@ -46,7 +46,7 @@ module _ (t : ℕ → ℕ → Element) (p : ℕ → Element) (s : ℕ → ℕ) (
   entry : (i j : ℕ) → i < m → j < 64 → Member (t i j) × (valueOf (t i j) ≡ timesZ residues (d i j) (valueOf (p i)))
   entry i j a b =
       rw (looks i j a b)
-      (made-read 8 (p i) (points i a) (d i j) (radix-small 4 (omega arith) (omega arith) (s i) (scalar-has-row (s i) (scalars i a)) j))
+      (made-read 8 (p i) (points i a) (d i j) (radix-small 4 (omega arith) (omega arith) (s i) (scalar-has-row (scalars i a)) j))
 
   row : (i : ℕ) → i < m → rowSum 16 (d i) 64 ≡ pos (s i)
   row i _ = radix-obeys 4 (omega arith) (omega arith) (s i) .sum-is

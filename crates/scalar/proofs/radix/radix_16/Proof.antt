@@ -6,7 +6,7 @@ use native.Mathlib.Omega.{arith}
 use lib.ListN.{take}
 use mir.Facts.{toZ-ofZ}
 use Rattle.rules.specs.Values.{number}
-use Rattle.scalar.proofs.Base.{part-lt}
+use Rattle.laws.specs.Numerals.{part-lt}
 use Rattle.scalar.proofs.NibbleTurn.{Centring, centring-none, centring-more, centring-end, small-here, small-carry, small-next}
 use Rattle.scalar.proofs.radix.radix_16.Statement.{statement}
 use Rattle.scalar.proofs.radix.radix_16.Tie as tie

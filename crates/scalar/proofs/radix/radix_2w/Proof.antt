@@ -8,7 +8,7 @@ use lib.ListN.{take}
 use lib.Pow.{pow-pos}
 use mir.Facts.{toZ-ofZ}
 use Rattle.rules.specs.Values.{number}
-use Rattle.scalar.proofs.Base.{part-lt}
+use Rattle.laws.specs.Numerals.{part-lt}
 use Rattle.scalar.proofs.Bits.{masked}
 use Rattle.scalar.proofs.RadixTurn.{Counted, counted, Scope, Part, part-none, coef-le, digit-asks, part-more, fold-eight, end-eight, fold-other, end-other}
 use Rattle.scalar.proofs.radix.radix_2w.Statement.{statement}

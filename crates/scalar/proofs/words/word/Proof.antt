@@ -6,7 +6,7 @@ use native.Mathlib.Omega.{arith}
 use lib.ListN.{getD, take, drop}
 use lib.Pow.{pow-mono}
 use Rattle.rules.specs.Values.{number, Below}
-use Rattle.scalar.proofs.Base.{part-at, part-lt}
+use Rattle.laws.specs.Numerals.{part-at, part-lt}
 use Rattle.scalar.proofs.words.word.Statement.{statement}
 use Rattle.scalar.proofs.words.word.Tie as tie
 

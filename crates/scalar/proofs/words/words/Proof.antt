@@ -7,7 +7,7 @@ use native.Mathlib.Nat.{add-zero}
 use native.Mathlib.Omega.{arith}
 use lib.ListN.{getD, take, drop}
 use Rattle.rules.specs.Values.{number, limb, Below}
-use Rattle.scalar.proofs.Base.{part-split, part-lt}
+use Rattle.laws.specs.Numerals.{part-split, part-lt}
 use Rattle.scalar.proofs.words.words.Statement.{statement}
 use Rattle.scalar.proofs.words.words.Tie as tie
 

@@ -1,13 +1,15 @@
 -- Numbers by their places in base 2 ^ m: one place, a part of the places, how large they are.
 use mathlib.Core.Path.{_≡_, refl, sym, ap, _∙_, subst}
 use mathlib.Core.List.{List, [], _∷_}
-use Prim.Native.Nat.{ℕ, zero, suc, _+_, _*_, _/_, _%_, _^_, _<_}
-use native.Mathlib.Nat.{mul-zero, mul-suc, mul-comm, mul-add, mul-assoc, zero-add, one-mul, pow-zero, pow-succ', div-one, zero-div, suc-add, add-suc, add-comm, mod-lt, mod-add-div}
+use Prim.Native.Nat.{ℕ, zero, suc, _+_, _*_, _/_, _%_, _^_, _<_, _≤_}
+use native.Mathlib.Nat.{mul-zero, mul-suc, mul-comm, mul-add, mul-assoc, add-zero, zero-add, one-mul, pow-zero, pow-succ', div-one, zero-div, suc-add, add-suc, add-comm, mod-lt, mod-add-div, div-lt-iff-lt-mul}
 use native.Mathlib.Omega.{arith}
 use native.Mathlib.Decide.{decLt}
-use lib.ListN.{length, getD, take, drop, List·getD-eq-default}
+use lib.ListN.{length, getD, take, drop, drop-of-length-le, List·getD-eq-default}
 use lib.Arith.{digits-lt}
+use lib.Dec.{leb, ltb}
 use lib.Pow.{shr-shr, shr-lt, high, pow-add, pow-pos}
+use borrow.Author.Tests.{lt-ltb, le-ltb, le-leb, lt-leb}
 use Rattle.rules.specs.Values.{number, places, Below}
 
 -- the number from place k on
@@ -88,3 +90,36 @@ number-places m zero v h = let l : v < 1 = subst (λ (x : ℕ). v < 2 ^ x) (mul-
 number-places m (suc n) v h =
     let e : m * suc n ≡ m * n + m = mul-suc m n in
     rw (number-places m n (v / 2 ^ m) (shr-lt (m * n) m (subst (λ (x : ℕ). v < 2 ^ x) e h))) (mod-add-div v (2 ^ m))
+
+-- ---- 32 bytes, by the last of them
+
+-- it is what the number has from bit 248 on
+top-byte : (l : List ℕ) → Below 256 l → length l ≤ 32 → number 256 l / 2 ^ 248 ≡ getD l 31 0
+unfolding number
+top-byte l b e =
+    let z : drop 32 l ≡ [] = drop-of-length-le l {i = 32} e in
+    number-from 8 l b 31 ∙ number-at 256 l 31 ∙ ap (λ (t : List ℕ). getD l 31 0 + 256 * number 256 t) z ∙ add-zero (getD l 31 0)
+
+module _ (v t : ℕ) (e : v / 2 ^ 248 ≡ t) where
+  below : t < 128 → v < 128 * 2 ^ 248
+  below h = div-lt-iff-lt-mul {k = 2 ^ 248} {x = v} {y = 128} (pow-pos 248) .0 (rw e h)
+
+  above : 127 < t → 128 * 2 ^ 248 ≤ v
+  above h = not-lt v (128 * 2 ^ 248) λ s. off (subst (λ (y : ℕ). y < 128) e (div-lt-iff-lt-mul {k = 2 ^ 248} {x = v} {y = 128} (pow-pos 248) .1 s))
+    where
+      not-lt : (a b : ℕ) → (a < b → ⊥) → b ≤ a
+      not-lt a b n = omega arith
+
+      off : t < 128 → ⊥
+      off l = omega arith
+
+  test : leb (128 * 2 ^ 248) v ≡ ltb 127 t
+  test = go (decLt 127 t)
+    where
+      go : Dec (127 < t) → leb (128 * 2 ^ 248) v ≡ ltb 127 t
+      go (yes h) = rw (lt-ltb 127 t h) (le-leb (128 * 2 ^ 248) v (above h))
+      go (no n) = rw (le-ltb 127 t (omega arith)) (lt-leb (128 * 2 ^ 248) v (below (omega arith)))
+
+-- they say a number at or above 2 ^ 255 where it is above 127
+pub top-test : (l : List ℕ) → Below 256 l → length l ≤ 32 → leb (128 * 2 ^ 248) (number 256 l) ≡ ltb 127 (getD l 31 0)
+top-test l b e = test (number 256 l) (getD l 31 0) (top-byte l b e)
