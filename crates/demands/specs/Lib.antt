@@ -5,6 +5,7 @@ pub mod Fresh
 pub mod Agree
 pub mod Total
 pub mod After
+pub mod Batches
 pub mod Refusals
 pub mod Group
 pub mod Rows

@@ -46,6 +46,7 @@ module _ {A : Type 0} (f : ℕ → A → A) where
       go (inr lt) again = ap (down f n) (h n (le-of-suc-le-suc lt) (lt-suc-self n)) ∙ again (le-of-suc-le-suc lt)
 
 module _ {A : Type 0} {f g : ℕ → A → A} where
+  -- equal steps
   pub down-ext : (n : ℕ) (q : A) → ((j : ℕ) → j < n → (r : A) → f j r ≡ g j r) → down f n q ≡ down g n q
   unfolding down
   down-ext zero q h = refl
