@@ -1,6 +1,6 @@
 -- Demand 3: a prepared batch, after any run of edits, accepted or refused, equals one prepared afresh from the edited list; its total is that list's sum;
 -- an edit touches its own slot only; edits of different slots swap.
-use mathlib.Core.Path.{_≡_, refl}
+use mathlib.Core.Path.{_≡_}
 use mathlib.Core.List.{List}
 use Prim.Native.Nat.{ℕ, _%_}
 use lib.ListN.{length}
