@@ -29,19 +29,19 @@ fn build(kind: Kind, point: &[u64], list: &mut [u64]) -> u8 {
         Kind::Radix => {
             let w = window::lookup_table(point);
             let l = w.limbs;
-            rows::window8_into(l, &mut *list);
+            rows::limbs_into(&l, &mut *list);
             w.number
         }
         Kind::Naf5 => {
             let w = window::naf_lookup_table5(point);
             let l = w.limbs;
-            rows::window8_into(l, &mut *list);
+            rows::limbs_into(&l, &mut *list);
             w.number
         }
         Kind::Naf8 => {
             let w = window::naf_lookup_table8(point);
             let l = w.limbs;
-            rows::window64_into(l, &mut *list);
+            rows::limbs_into(&l, &mut *list);
             w.number
         }
     }

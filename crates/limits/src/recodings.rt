@@ -37,9 +37,7 @@ fn naf(t: Tally, case: &[u8], b: Bytes, w: usize, number: u8) -> Tally {
     lists::put(&mut s, 31, b.top);
     let r = scalar::non_adjacent_form(lists::first(&s, b.len), w);
     let row = r.row;
-    let mut list = [99i8; 256];
-    rows::naf_into(row, &mut list);
-    let right = naf_right(r.number, &list, w, b);
+    let right = naf_right(r.number, &row, w, b);
     tally::start_width(b"non_adjacent_form", w);
     tally::expect_number(t, b"", case, r.number, number, right)
 }
@@ -51,9 +49,7 @@ fn radix(t: Tally, case: &[u8], b: Bytes, w: usize, number: u8) -> Tally {
     lists::put(&mut s, 31, b.top);
     let r = scalar::as_radix_2w(lists::first(&s, b.len), w);
     let row = r.row;
-    let mut list = [99i8; 64];
-    rows::radix_into(row, &mut list);
-    let right = radix_right(r.number, &list, w, b);
+    let right = radix_right(r.number, &row, w, b);
     tally::start_width(b"as_radix_2w", w);
     tally::expect_number(t, b"", case, r.number, number, right)
 }
@@ -65,9 +61,7 @@ fn sixteen(t: Tally, case: &[u8], b: Bytes, number: u8) -> Tally {
     lists::put(&mut s, 31, b.top);
     let r = scalar::as_radix_16(lists::first(&s, b.len));
     let row = r.row;
-    let mut list = [99i8; 64];
-    rows::radix_into(row, &mut list);
-    let right = radix_right(r.number, &list, 4, b);
+    let right = radix_right(r.number, &row, 4, b);
     tally::expect_number(t, b"as_radix_16", case, r.number, number, right)
 }
 
