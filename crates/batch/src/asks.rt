@@ -1,16 +1,21 @@
 // What the calls on a batch ask.
 ghost use mathlib.Core.Path.{_≡_};
-ghost use Rattle.rules.specs.Batch.{memoryNotWhole, prepareRefusal, totalRefusal};
-ghost use Rattle.batch.specs.Edge.{edgeRefusal};
+ghost use Rattle.rules.specs.Lent.{was};
+ghost use Rattle.rules.specs.Numbers.{first};
+ghost use Rattle.rules.specs.Lists.{wildDigit, anyWild};
+ghost use Rattle.rules.specs.Batch.{memoryOf, memoryAsked, prepareRefusal, edgeRefusal, totalRefusal};
 
-// 1: whether digits are not in 256s, or windows not 32 limbs per slot.
-pub(crate) fn memory_not_whole(digits: usize, windows: usize) -> bool
-    ensures { λ r. ⌜ r ≡ memoryNotWhole digits windows ⌝ }
+// 1 and 2 of prepared memory.
+pub(crate) fn memory(digits: usize, windows: usize) -> u8
+    ensures { λ r. ⌜ r ≡ first (memoryAsked digits windows) ⌝ }
 {
-    if lent::not_whole(digits, 256) {
-        return true;
+    if lent::not_whole(digits, 256) | (windows != 32 * (digits / 256)) {
+        return 1;
     }
-    windows != 32 * (digits / 256)
+    if lent::too_many(digits, 256, lent::MOST) {
+        return 2;
+    }
+    0
 }
 
 // The number that preparing answers.
@@ -21,29 +26,19 @@ pub(crate) fn prepare_refusal(
     digits: usize,
     windows: usize,
 ) -> u8
-    ensures { λ r. ⌜ r ≡ prepareRefusal (now (scalars .entry)) (now (points .entry)) (now (flags .entry)) digits windows ⌝ }
+    ensures { λ r. ⌜ r ≡ prepareRefusal (was scalars) (was points) (was flags) digits windows ⌝ }
 {
-    if lent::lists_not_whole(scalars, points, flags) {
-        return 1;
-    }
-    if lent::lists_too_many(scalars, points) {
-        return 2;
+    let a = lent::lists(scalars, points, flags);
+    if a != 0 {
+        return a;
     }
     let n = scalars.len() / 32;
-    if digits != 256 * n {
+    if (digits != 256 * n) | (windows != 32 * n) {
         return 5;
     }
-    if windows != 32 * n {
-        return 5;
-    }
-    if lent::any_big(scalars) {
-        return 6;
-    }
-    if lent::bad_lists(points, flags) {
-        return 7;
-    }
-    if lent::absent_below(points, flags, points.len() / 4) {
-        return 8;
+    let b = lent::contents(scalars, points, flags, points.len() / 4);
+    if b != 0 {
+        return b;
     }
     if n != points.len() / 4 {
         return 9;
@@ -53,16 +48,14 @@ pub(crate) fn prepare_refusal(
 
 // The number that an edit answers before it looks at the point.
 pub(crate) fn set_refusal(digits: usize, windows: usize, slot: usize, scalar: &[u8]) -> u8
-    ensures { λ r. ⌜ r ≡ edgeRefusal digits windows slot (now (scalar .entry)) ⌝ }
+    ensures { λ r. ⌜ r ≡ edgeRefusal digits windows slot (was scalar) ⌝ }
 {
-    if memory_not_whole(digits, windows) {
-        return 1;
-    }
     if scalar.len() != 32 {
         return 1;
     }
-    if lent::too_many(digits, 256, lent::MOST) {
-        return 2;
+    let n = memory(digits, windows);
+    if n != 0 {
+        return n;
     }
     if digits / 256 <= slot {
         return 4;
@@ -73,17 +66,43 @@ pub(crate) fn set_refusal(digits: usize, windows: usize, slot: usize, scalar: &[
     0
 }
 
+// Whether a digit is neither 0 nor odd within -15 to 15.
+fn wild(d: i8) -> bool
+    ensures { λ r. ⌜ r ≡ wildDigit d ⌝ }
+{
+    let m = digit::magnitude(d);
+    if m == 0 {
+        return false;
+    }
+    if m % 2 == 0 {
+        return true;
+    }
+    15 < m
+}
+
+// 10: whether a prepared digit is so.
+fn any_wild(digits: &[i8]) -> bool
+    ensures { λ r. ⌜ r ≡ anyWild (was digits) ⌝ }
+{
+    let mut i: usize = 0;
+    while i < digits.len() {
+        if wild(digits[i]) {
+            return true;
+        }
+        i += 1;
+    }
+    false
+}
+
 // The number that a total answers.
 pub(crate) fn total_refusal(digits: &[i8], windows: &[u64]) -> u8
-    ensures { λ r. ⌜ r ≡ totalRefusal (record { digits = now (digits .entry); windows = now (windows .entry) }) ⌝ }
+    ensures { λ r. ⌜ r ≡ totalRefusal (memoryOf (was digits) (was windows)) ⌝ }
 {
-    if memory_not_whole(digits.len(), windows.len()) {
-        return 1;
+    let n = memory(digits.len(), windows.len());
+    if n != 0 {
+        return n;
     }
-    if lent::too_many(digits.len(), 256, lent::MOST) {
-        return 2;
-    }
-    if lent::any_wild(digits) {
+    if any_wild(digits) {
         return 10;
     }
     if lent::any_over(windows) {

@@ -2,12 +2,14 @@
 ghost use mathlib.Core.Path.{_≡_};
 ghost use lib.ListN.{length};
 ghost use Rattle.rules.specs.declared.OptionalPoint.the-variants.{Present};
-ghost use Rattle.rules.specs.Batch.{AfterEdit, prepare, set, clear, totalOf};
-ghost use Rattle.batch.specs.Edge.{edgeRefusal};
+ghost use Rattle.rules.specs.Lent.{was, is};
+ghost use Rattle.rules.specs.Batch.{memoryOf, afterEdit, prepare, edgeRefusal, setSlot, clearSlot, totalOf};
 use rules::Counted;
 use rules::Element;
 use rules::OptionalPoint;
+use rules::Row;
 use rules::Sum;
+use rules::Window;
 
 pub(crate) mod asks;
 
@@ -19,13 +21,15 @@ pub fn prepare(
     digits: &mut [i8],
     windows: &mut [u64],
 ) -> Counted
-    ensures { λ r. ⌜ _≡_ {A = AfterEdit} (record { result = r; memory = record { digits = now (digits .exit); windows = now (windows .exit) } }) (prepare (now (scalars .entry)) (now (points .entry)) (now (flags .entry)) (record { digits = now (digits .entry); windows = now (windows .entry) })) ⌝ }
+    ensures { λ r. ⌜ afterEdit r (is digits) (is windows) ≡ prepare (was scalars) (was points) (was flags) (memoryOf (was digits) (was windows)) ⌝ }
 {
     let n = crate::asks::prepare_refusal(scalars, points, flags, digits.len(), windows.len());
     if n != 0 {
         return answer::refused_counted(n);
     }
-    answer::counted(columns::fill(scalars, points, &mut *digits, &mut *windows))
+    let k = scalars.len() / 32;
+    laying::rows(scalars, k, Row::Naf(5), &mut *digits);
+    answer::counted(laying::windows(points, k, Window::Odd8, &mut *windows))
 }
 
 // One slot set to a scalar and a point: its row and its window are written, nothing else is read or touched.
@@ -37,7 +41,7 @@ fn set_point(
     p: Element,
 ) -> Counted
     requires { ⌜ edgeRefusal (length (now digits)) (length (now windows)) slot (now scalar) ≡ 0 ⌝ }
-    ensures { λ r. ⌜ _≡_ {A = AfterEdit} (record { result = r; memory = record { digits = now (digits .exit); windows = now (windows .exit) } }) (set (record { digits = now (digits .entry); windows = now (windows .entry) }) slot (now (scalar .entry)) (Present p)) ⌝ }
+    ensures { λ r. ⌜ afterEdit r (is digits) (is windows) ≡ setSlot (memoryOf (was digits) (was windows)) slot (was scalar) (Present p) ⌝ }
 {
     if residue::over(p) {
         return answer::refused_counted(7);
@@ -46,7 +50,7 @@ fn set_point(
     let e = a + 256;
     let b = 32 * slot;
     let f = b + 32;
-    answer::counted(columns::fill_slot(scalar, p, &mut digits[a..e], &mut windows[b..f]))
+    answer::counted(laying::fill_slot(scalar, p, &mut digits[a..e], &mut windows[b..f]))
 }
 
 // One slot set to a scalar and an optional point.
@@ -57,7 +61,7 @@ pub fn set(
     scalar: &[u8],
     point: OptionalPoint,
 ) -> Counted
-    ensures { λ r. ⌜ _≡_ {A = AfterEdit} (record { result = r; memory = record { digits = now (digits .exit); windows = now (windows .exit) } }) (set (record { digits = now (digits .entry); windows = now (windows .entry) }) slot (now (scalar .entry)) point) ⌝ }
+    ensures { λ r. ⌜ afterEdit r (is digits) (is windows) ≡ setSlot (memoryOf (was digits) (was windows)) slot (was scalar) point ⌝ }
 {
     let n = crate::asks::set_refusal(digits.len(), windows.len(), slot, scalar);
     if n != 0 {
@@ -71,7 +75,7 @@ pub fn set(
 
 // One slot set to scalar 0 and point 0.
 pub fn clear(digits: &mut [i8], windows: &mut [u64], slot: usize) -> Counted
-    ensures { λ r. ⌜ _≡_ {A = AfterEdit} (record { result = r; memory = record { digits = now (digits .exit); windows = now (windows .exit) } }) (clear (record { digits = now (digits .entry); windows = now (windows .entry) }) slot) ⌝ }
+    ensures { λ r. ⌜ afterEdit r (is digits) (is windows) ≡ clearSlot (memoryOf (was digits) (was windows)) slot ⌝ }
 {
     let zero = [0u8; 32];
     let identity = OptionalPoint::Present(residue::identity());
@@ -80,7 +84,7 @@ pub fn clear(digits: &mut [i8], windows: &mut [u64], slot: usize) -> Counted
 
 // The sum over all slots as they stand.
 pub fn total(digits: &[i8], windows: &[u64]) -> Sum
-    ensures { λ r. ⌜ r ≡ totalOf (record { digits = now (digits .entry); windows = now (windows .entry) }) ⌝ }
+    ensures { λ r. ⌜ r ≡ totalOf (memoryOf (was digits) (was windows)) ⌝ }
 {
     let n = crate::asks::total_refusal(digits, windows);
     if n != 0 {

@@ -7,7 +7,7 @@ use native.Mathlib.Omega.{arith}
 use lib.IntN.{ℤ, pos, negsuc}
 use Rattle.rules.specs.declared.Element.{Element}
 use Rattle.rules.specs.Values.{valueOf, elementOf}
-use Rattle.rules.specs.Group.{L, Ops, residues, elements, times, sum, total}
+use Rattle.rules.specs.Group.{L, Ops, residues, elements, times, sumBelow, total}
 use Rattle.rules.specs.Loops.{oddEntry, moved, column, walk}
 use Rattle.rules.specs.Windows.{selectedOdd}
 use Rattle.rules.specs.Rows.{rowSum}
@@ -43,7 +43,7 @@ total-top f k (suc n) le h = go (eq-or-lt-of-le le) (λ a. total-top f k n a (λ
     go (inr q) again = omega (arith, again (le-of-suc-le-suc q), h n (le-of-suc-le-suc q) (lt-suc-self n))
 
 module _ (d : ℕ → ℕ → ℤ) (x : ℕ → ℕ → ℕ) (m n : ℕ) where
-  terms-sum : Named (λ a. a < L) d x m n → sum residues (λ i. sum residues (λ j. times residues (2 ^ j) (term residues d x i j)) n) m ≡ entrySum d x m n % L
+  terms-sum : Named (λ a. a < L) d x m n → sumBelow residues (λ i. sumBelow residues (λ j. times residues (2 ^ j) (term residues d x i j)) n) m ≡ entrySum d x m n % L
   unfolding entrySum
   terms-sum h =
       sum-ext residues m

@@ -1,8 +1,5 @@
-mod Steps
-mod Turns
-mod Walking
 pub mod Entries
+pub mod Under
 pub mod Walked
 pub mod Slots
-mod Filling
-pub mod Built
+mod Walking

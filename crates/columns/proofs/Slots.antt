@@ -47,7 +47,7 @@ module _ (w : ℕ) (s : ℕ → ℕ) (m : ℕ) where
   slot-entries x n = entries-ext (slotDigit nafRows) (λ i j. digit (nafRow w (s i)) j) x x m n (λ i j p q. slot-digit i j p) (λ i j p q. refl)
 
   -- a row reads back to its scalar
-  slot-reads : 2 ≤ w → (i : ℕ) → i < m → s i < rowBound → rowSum 2 (slotDigit nafRows i) 256 ≡ pos (s i)
+  pub slot-reads : 2 ≤ w → (i : ℕ) → i < m → s i < rowBound → rowSum 2 (slotDigit nafRows i) 256 ≡ pos (s i)
   unfolding slotDigit
   slot-reads lo i p h = ap (λ (r : List ℤ). rowSum 2 (λ j. digit r j) 256) (row-at i p) ∙ naf-obeys w lo (s i) h .sum-is
 

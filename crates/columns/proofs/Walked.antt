@@ -13,7 +13,7 @@ use Rattle.rules.specs.Group.{L, elements}
 use Rattle.rules.specs.Loops.{walk, weight}
 use Rattle.rules.specs.Batch.{slotDigit}
 use Rattle.rules.specs.Engines.{entrySum, entryAt}
-use Rattle.rules.specs.Helpers.{windowEntry, windowedRows, walked}
+use Rattle.rules.specs.Helpers.{entryIn, windowEntry, windowedRows, walked}
 use Rattle.laws.specs.Walk.{Named}
 use Rattle.columns.proofs.Entries.{walk-element}
 
@@ -34,7 +34,7 @@ module _ (ds : List ℤ) (ws : List ℕ) (ds′ : List ℤ) (ts : List ℕ) (p m
       → walked ds ws ds′ ts p
       ≡ took (elementOf ((entrySum (slotDigit ds) (entryAt 32 ws) m n + entrySum (slotDigit ds′) (entryAt 256 ts) m′ n) % L))
       (weight (slotDigit ds) m n + weight (slotDigit ds′) m′ n) n
-  unfolding walked entryAt pointAt windowEntry
+  unfolding walked entryAt pointAt entryIn
   walked-entries h h′ =
       ap (λ (m : ℕ). all m (windowedRows 256 ds′ ts) (min p 256)) rows
       ∙ ap (λ (m′ : ℕ). all m m′ (min p 256)) rows′

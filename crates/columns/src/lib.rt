@@ -1,13 +1,15 @@
-// The rows and windows of slots, and the walk down the columns of NAF rows.
+// The walk down the columns of NAF rows.
 ghost use mathlib.Core.Path.{_≡_};
 ghost use Prim.Native.Nat.{_+_, _/_, _^_, _<_, min};
 ghost use lib.ListN.{length};
+ghost use Rattle.rules.specs.Lent.{was};
 ghost use Rattle.rules.specs.Values.{elementAt};
 ghost use Rattle.rules.specs.Rows.{digit};
 ghost use Rattle.rules.specs.Loops.{nonzero, oddEntry};
-ghost use Rattle.rules.specs.Helpers.{walked, Filled, filledSlot, filled};
-ghost use Rattle.columns.specs.Running.{onward, passed, Passable};
-use rules::Counts;
+ghost use Rattle.rules.specs.Group.{elements};
+ghost use Rattle.rules.specs.Helpers.{windowEntry, walked};
+ghost use Rattle.laws.specs.Running.{onward, passed, Passable};
+ghost use Rattle.columns.specs.Running.{run};
 use rules::Element;
 use rules::Walk;
 
@@ -20,13 +22,13 @@ pub(crate) struct Running {
 // One row's digit at place j: its entry is added, taken away where it is negative, left out where it is 0.
 pub(crate) fn moved(q: Running, row: &[i8], window: &[u64], j: usize) -> Running
     requires { ⌜ (j < length (now row)) × (q .additions + nonzero (digit (now row) j) < 2 ^ 64) ⌝ }
-    ensures { λ r. ⌜ r ≡ onward (digit (now (row .entry)) j) (elementAt (now (window .entry)) (oddEntry (digit (now (row .entry)) j))) q ⌝ }
+    ensures { λ r. ⌜ run r ≡ onward elements (digit (was row) j) (elementAt (was window) (oddEntry (digit (was row) j))) (run q) ⌝ }
 {
     let d = row[j];
     if d == 0 {
         return q;
     }
-    let x = residue::element_at(window, digit::odd_entry(d));
+    let x = limbs::element_at(window, digit::odd_entry(d));
     let e = q.element;
     let n = q.additions + 1;
     if d < 0 {
@@ -59,7 +61,7 @@ pub(crate) fn column(
     j: usize,
 ) -> Running
     requires { ⌜ Passable (now digits) (now windows) unit m j (q .additions) ⌝ }
-    ensures { λ r. ⌜ r ≡ passed (now (digits .entry)) (now (windows .entry)) unit m j q ⌝ }
+    ensures { λ r. ⌜ run r ≡ passed elements (was digits) (windowEntry unit (was windows)) m j (run q) ⌝ }
 {
     let mut r = q;
     let mut i: usize = 0;
@@ -82,7 +84,7 @@ pub fn walk(
     tables: &[u64],
     places: usize,
 ) -> Walk
-    ensures { λ r. ⌜ r ≡ walked (now (digits .entry)) (now (windows .entry)) (now («static_digits» .entry)) (now (tables .entry)) places ⌝ }
+    ensures { λ r. ⌜ r ≡ walked (was digits) (was windows) (was «static_digits») (was tables) places ⌝ }
 {
     let m = windowed(digits.len(), windows.len(), 32);
     let s = windowed(static_digits.len(), tables.len(), 256);
@@ -108,41 +110,6 @@ pub fn walk(
     Walk {
         element,
         additions: r.additions,
-        doublings,
-    }
-}
-
-// The row (width 5) and the window of one slot, each into its part of lent memory.
-pub fn fill_slot(scalar: &[u8], point: Element, row: &mut [i8], window: &mut [u64]) -> Counts
-    ensures { λ r. ⌜ _≡_ {A = Filled} (record { counts = r; digits = now (row .exit); windows = now (window .exit) }) (filledSlot (now (scalar .entry)) point (now (row .entry)) (now (window .entry))) ⌝ }
-{
-    let digits = scalar::naf_row(scalar, 5);
-    room::copy_digits(&mut *row, &digits);
-    window::make_odd8(point, &mut *window)
-}
-
-// The slots of all pairs, one after the other, as far as the room goes.
-pub fn fill(scalars: &[u8], points: &[u64], digits: &mut [i8], windows: &mut [u64]) -> Counts
-    ensures { λ r. ⌜ _≡_ {A = Filled} (record { counts = r; digits = now (digits .exit); windows = now (windows .exit) }) (filled (now (scalars .entry)) (now (points .entry)) (now (digits .entry)) (now (windows .entry))) ⌝ }
-{
-    let pairs = lent::smaller(scalars.len() / 32, points.len() / 4);
-    let m = lent::smaller(pairs, windowed(digits.len(), windows.len(), 32));
-    let mut additions: u64 = 0;
-    let mut doublings: u64 = 0;
-    let mut i: usize = 0;
-    while i < m {
-        let s = 32 * i;
-        let t = s + 32;
-        let a = 256 * i;
-        let e = a + 256;
-        let point = residue::element_at(points, i);
-        let made = fill_slot(&scalars[s..t], point, &mut digits[a..e], &mut windows[s..t]);
-        additions += made.additions;
-        doublings += made.doublings;
-        i += 1;
-    }
-    Counts {
-        additions,
         doublings,
     }
 }

@@ -1,42 +1,58 @@
--- Demand 3: a prepared batch, after any run of edits, accepted or refused, equals one prepared afresh from the edited list; its total is that list's sum;
--- an edit touches its own slot only; edits of different slots swap.
+-- Demand 3: a prepared batch, after any run of edits, accepted or refused, equals one prepared afresh from the edited list; its total is that list's sum,
+-- and so is what the multi-point engines answer on that list; an edit touches its own slot only; edits of different slots swap.
 use mathlib.Core.Path.{_≡_}
-use mathlib.Core.List.{List}
-use Prim.Native.Nat.{ℕ, _%_}
+use mathlib.Core.List.{List, []}
+use Prim.Native.Nat.{ℕ, _*_, _≤_}
 use lib.ListN.{length}
-use Rattle.rules.specs.Values.{limb, places, part}
-use Rattle.rules.specs.Group.{L}
-use Rattle.rules.specs.Lists.{scalarCount}
-use Rattle.rules.specs.Engines.{products}
-use Rattle.rules.specs.Batch.{Memory, Pairs, Edit, apply, memoryAfter, listAfter, prepare, totalOf}
-use Rattle.demands.specs.Accepted.{slotOf}
-use Rattle.demands.specs.Fresh.{edited-is-fresh}
-use Rattle.demands.specs.Total.{edited-total}
-use Rattle.demands.specs.Edits as edits
+use lib.IntN.{ℤ}
+use Rattle.rules.specs.Values.{part}
+use Rattle.rules.specs.Engines.{radixStraus, nafStraus, bucketWidth, bucketLimbs, pippenger, mixed}
+use Rattle.rules.specs.Batch.{Memory, Pairs, Edit, apply, memoryAfter, listAfter, totalOf, slotOf}
+use Rattle.rules.specs.Claims.{prepared, slots, sumOf, Answers, answersIn, answersBy}
+use Rattle.arguments.proofs.Fresh as fresh
+use Rattle.arguments.proofs.Total as total
+use Rattle.arguments.proofs.Agree as agree
+use Rattle.arguments.proofs.Edits as edits
 
 -- a list of pairs that preparing takes, the memory that it is prepared into, and any run of edits
-module _ (l : Pairs) (m : Memory) (es : List Edit) (taken : prepare (l .scalars) (l .points) (l .flags) m .result .number ≡ 0) where
+module _ (l : Pairs) (m : Memory) (es : List Edit) (taken : prepared l m .result .number ≡ 0) where
   -- the edited batch, the edited list
   abbrev pub batch : Memory
-  batch = memoryAfter (prepare (l .scalars) (l .points) (l .flags) m .memory) es
+  batch = memoryAfter (prepared l m .memory) es
 
   abbrev pub list : Pairs
   list = listAfter l es
 
   -- preparing the edited list afresh, into any memory of the same lengths, is taken and gives the edited batch
   module _ (m′ : Memory) (digits : length (m′ .digits) ≡ length (m .digits)) (windows : length (m′ .windows) ≡ length (m .windows)) where
-    pub taken-afresh : prepare (list .scalars) (list .points) (list .flags) m′ .result .number ≡ 0
-    taken-afresh = edited-is-fresh l m es taken m′ digits windows .taken-again
+    pub taken-afresh : prepared list m′ .result .number ≡ 0
+    taken-afresh = fresh.edited-is-fresh l m es taken m′ digits windows .taken-again
 
-    pub same-as-afresh : batch ≡ prepare (list .scalars) (list .points) (list .flags) m′ .memory
-    same-as-afresh = edited-is-fresh l m es taken m′ digits windows .same-memory
+    pub same-as-afresh : batch ≡ prepared list m′ .memory
+    same-as-afresh = fresh.edited-is-fresh l m es taken m′ digits windows .same-memory
+
+  -- the edits that the run accepted are those that the list has: edit by edit, the answer in the run is the answer by the list
+  pub same-answers : answersIn (prepared l m .memory) es ≡ answersBy l es
+  same-answers = fresh.edited-answers l m es taken
 
   -- its total is the edited list's sum
-  pub total-taken : totalOf batch .number ≡ 0
-  total-taken = edited-total l m es taken .number-is
+  pub total-is-sum : Answers (totalOf batch) (sumOf list)
+  total-is-sum = total.edited-total l m es taken
 
-  pub total-is-sum : totalOf batch .value ≡ places limb 4 (products (list .scalars) (list .points) (scalarCount (list .scalars)) % L)
-  total-is-sum = edited-total l m es taken .value-is
+  -- and each multi-point engine, with room enough, answers that sum on the edited list
+  module _ (ds : List ℤ) (ls : List ℕ) where
+    pub radix-straus-after : 64 * slots list ≤ length ds → 32 * slots list ≤ length ls → Answers (radixStraus (list .scalars) (list .points) ds ls .result) (sumOf list)
+    radix-straus-after = agree.by-radix-straus list (fresh.edited-ready l m es taken) ds ls
+
+    pub naf-straus-after : 256 * slots list ≤ length ds → 32 * slots list ≤ length ls → Answers (nafStraus (list .scalars) (list .points) (list .flags) ds ls .result) (sumOf list)
+    naf-straus-after = agree.by-naf-straus list (fresh.edited-ready l m es taken) ds ls
+
+    pub pippenger-after : 64 * slots list ≤ length ds → bucketLimbs (bucketWidth (slots list)) ≤ length ls → Answers (pippenger (list .scalars) (list .points) (list .flags) ds ls .result) (sumOf list)
+    pippenger-after = agree.by-pippenger list (fresh.edited-ready l m es taken) ds ls
+
+    -- precomputed Straus with every pair dynamic
+    pub precomputed-straus-after : 256 * slots list ≤ length ds → 32 * slots list ≤ length ls → Answers (mixed [] [] (list .scalars) (list .points) (list .flags) ds ls .result) (sumOf list)
+    precomputed-straus-after = agree.by-precomputed-straus list (fresh.edited-ready l m es taken) ds ls
 
 -- any memory, prepared or not, and an edit of it
 module _ (m : Memory) (e : Edit) where

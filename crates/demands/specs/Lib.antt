@@ -1,17 +1,9 @@
-pub mod Accepted
-pub mod Edits
-pub mod Ready
-pub mod Fresh
-pub mod Agree
-pub mod Total
-pub mod After
 pub mod Batches
 pub mod Refusals
 pub mod Group
 pub mod Rows
 pub mod Sums
 pub mod Sheet
-pub mod One
 pub mod OneGroup
 pub mod OneRows
 pub mod OneEngines

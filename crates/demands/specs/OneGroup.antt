@@ -1,244 +1,173 @@
--- One result, call by call: digits, limbs, answers, the group, lent lists.
-use mathlib.Core.Path.{sym, _∙_}
+-- What each contract says, and so one result: digits, limbs, words, answers, the group, lent lists and room.
+use Prim.Native.Nat.{_%_, _*_, _/_, _^_, min}
+use lib.Dec.{leb}
+use lib.IntN.{natAbs, pos}
+use lib.ListN.{getD, take}
 use denote.Ref.{now}
-use Rattle.demands.specs.One.{One, Whole}
-use Rattle.digit.proofs.magnitude.Kinds as digit-magnitude-K
-use Rattle.digit.proofs.magnitude.Reads as digit-magnitude
-use Rattle.digit.proofs.odd_entry.Kinds as digit-odd-entry-K
-use Rattle.digit.proofs.odd_entry.Reads as digit-odd-entry
-use Rattle.limbs.proofs.sum.Kinds as limbs-sum-K
-use Rattle.limbs.proofs.sum.Reads as limbs-sum
-use Rattle.limbs.proofs.difference.Kinds as limbs-difference-K
-use Rattle.limbs.proofs.difference.Reads as limbs-difference
-use Rattle.limbs.proofs.less_than.Kinds as limbs-less-than-K
-use Rattle.limbs.proofs.less_than.Reads as limbs-less-than
-use Rattle.limbs.proofs.array.Kinds as limbs-array-K
-use Rattle.limbs.proofs.array.Reads as limbs-array
-use Rattle.answer.proofs.value.Kinds as answer-value-K
-use Rattle.answer.proofs.value.Reads as answer-value
-use Rattle.answer.proofs.counted.Kinds as answer-counted-K
-use Rattle.answer.proofs.counted.Reads as answer-counted
-use Rattle.answer.proofs.sum.Kinds as answer-sum-K
-use Rattle.answer.proofs.sum.Reads as answer-sum
-use Rattle.answer.proofs.refused_value.Kinds as answer-refused-value-K
-use Rattle.answer.proofs.refused_value.Reads as answer-refused-value
-use Rattle.answer.proofs.refused_counted.Kinds as answer-refused-counted-K
-use Rattle.answer.proofs.refused_counted.Reads as answer-refused-counted
-use Rattle.answer.proofs.refused_sum.Kinds as answer-refused-sum-K
-use Rattle.answer.proofs.refused_sum.Reads as answer-refused-sum
-use Rattle.residue.proofs.order.Kinds as residue-order-K
-use Rattle.residue.proofs.order.Reads as residue-order
-use Rattle.residue.proofs.identity.Kinds as residue-identity-K
-use Rattle.residue.proofs.identity.Reads as residue-identity
-use Rattle.residue.proofs.basepoint.Kinds as residue-basepoint-K
-use Rattle.residue.proofs.basepoint.Reads as residue-basepoint
-use Rattle.residue.proofs.over.Kinds as residue-over-K
-use Rattle.residue.proofs.over.Reads as residue-over
-use Rattle.residue.proofs.plus.Kinds as residue-plus-K
-use Rattle.residue.proofs.plus.Reads as residue-plus
-use Rattle.residue.proofs.minus.Kinds as residue-minus-K
-use Rattle.residue.proofs.minus.Reads as residue-minus
-use Rattle.residue.proofs.negative.Kinds as residue-negative-K
-use Rattle.residue.proofs.negative.Reads as residue-negative
-use Rattle.residue.proofs.twice.Kinds as residue-twice-K
-use Rattle.residue.proofs.twice.Reads as residue-twice
-use Rattle.residue.proofs.mul_by_pow_2.Kinds as residue-mul-by-pow-2-K
-use Rattle.residue.proofs.mul_by_pow_2.Reads as residue-mul-by-pow-2
-use Rattle.residue.proofs.element_at.Kinds as residue-element-at-K
-use Rattle.residue.proofs.element_at.Reads as residue-element-at
-use Rattle.residue.proofs.point_refusal.Kinds as residue-point-refusal-K
-use Rattle.residue.proofs.point_refusal.Reads as residue-point-refusal
-use Rattle.residue.proofs.add.Kinds as residue-add-K
-use Rattle.residue.proofs.add.Reads as residue-add
-use Rattle.residue.proofs.subtract.Kinds as residue-subtract-K
-use Rattle.residue.proofs.subtract.Reads as residue-subtract
-use Rattle.residue.proofs.negate.Kinds as residue-negate-K
-use Rattle.residue.proofs.negate.Reads as residue-negate
-use Rattle.residue.proofs.double.Kinds as residue-double-K
-use Rattle.residue.proofs.double.Reads as residue-double
-use Rattle.lent.proofs.not_whole.Kinds as lent-not-whole-K
-use Rattle.lent.proofs.not_whole.Reads as lent-not-whole
-use Rattle.lent.proofs.too_many.Kinds as lent-too-many-K
-use Rattle.lent.proofs.too_many.Reads as lent-too-many
-use Rattle.lent.proofs.smaller.Kinds as lent-smaller-K
-use Rattle.lent.proofs.smaller.Reads as lent-smaller
-use Rattle.lent.proofs.lists_not_whole.Kinds as lent-lists-not-whole-K
-use Rattle.lent.proofs.lists_not_whole.Reads as lent-lists-not-whole
-use Rattle.lent.proofs.lists_too_many.Kinds as lent-lists-too-many-K
-use Rattle.lent.proofs.lists_too_many.Reads as lent-lists-too-many
-use Rattle.lent.proofs.any_big.Kinds as lent-any-big-K
-use Rattle.lent.proofs.any_big.Reads as lent-any-big
-use Rattle.lent.proofs.any_flag.Kinds as lent-any-flag-K
-use Rattle.lent.proofs.any_flag.Reads as lent-any-flag
-use Rattle.lent.proofs.optional_at.Kinds as lent-optional-at-K
-use Rattle.lent.proofs.optional_at.Reads as lent-optional-at
-use Rattle.lent.proofs.point_over.Kinds as lent-point-over-K
-use Rattle.lent.proofs.point_over.Reads as lent-point-over
-use Rattle.lent.proofs.any_point.Kinds as lent-any-point-K
-use Rattle.lent.proofs.any_point.Reads as lent-any-point
-use Rattle.lent.proofs.bad_lists.Kinds as lent-bad-lists-K
-use Rattle.lent.proofs.bad_lists.Reads as lent-bad-lists
-use Rattle.lent.proofs.any_over.Kinds as lent-any-over-K
-use Rattle.lent.proofs.any_over.Reads as lent-any-over
-use Rattle.lent.proofs.absent_below.Kinds as lent-absent-below-K
-use Rattle.lent.proofs.absent_below.Reads as lent-absent-below
-use Rattle.lent.proofs.wild.Kinds as lent-wild-K
-use Rattle.lent.proofs.wild.Reads as lent-wild
-use Rattle.lent.proofs.any_wild.Kinds as lent-any-wild-K
-use Rattle.lent.proofs.any_wild.Reads as lent-any-wild
-use Rattle.room.proofs.copy_digits.Kinds as room-copy-digits-K
-use Rattle.room.proofs.copy_digits.Reads as room-copy-digits
-use Rattle.room.proofs.copy_window8.Kinds as room-copy-window8-K
-use Rattle.room.proofs.copy_window8.Reads as room-copy-window8
-use Rattle.room.proofs.copy_window64.Kinds as room-copy-window64-K
-use Rattle.room.proofs.copy_window64.Reads as room-copy-window64
-use Rattle.room.proofs.clear_digits.Kinds as room-clear-digits-K
-use Rattle.room.proofs.clear_digits.Reads as room-clear-digits
-use Rattle.room.proofs.clear_limbs.Kinds as room-clear-limbs-K
-use Rattle.room.proofs.clear_limbs.Reads as room-clear-limbs
+use Rattle.rules.specs.Asks.{enoughRoom, flaggedContents, flaggedLists, plainContents, plainLists}
+use Rattle.rules.specs.Calls.{groupAdd, groupDouble, groupNegate, groupSubtract}
+use Rattle.rules.specs.Group.{L, added, addedModulo, elements, negated, subtracted, subtractedModulo}
+use Rattle.rules.specs.Helpers.{countedDone, sumDone, valueDone}
+use Rattle.rules.specs.Limbs.{carriedDifference, carriedSum}
+use Rattle.rules.specs.Lists.{anyBig, beyondMost, notIn, pairs}
+use Rattle.rules.specs.Loops.{doubled, oddEntry}
+use Rattle.rules.specs.Numbers.{cleared, counted, first, summed, valued}
+use Rattle.rules.specs.Parts.{firstUnits}
+use Rattle.rules.specs.Values.{elementAt, elementOf, limbsOf, number, places, pointAt, valueOf}
+use Rattle.rules.specs.Windows.{anyOver, pointRefusal}
+use Rattle.rules.specs.Claims.{Says}
+use Rattle.arguments.proofs.Contracts.{says}
 
 -- digit
-pub one-digit-magnitude : One 0 digit-magnitude-K.ps digit-magnitude-K.r digit-magnitude.Post
-one-digit-magnitude κs a r r′ s s′ p q = p ∙ sym q
+pub one-digit-magnitude : Says Rattle.digit.proofs.magnitude.Reads.Post (λ κ (d, _). natAbs d) (λ κ r _. r)
+one-digit-magnitude = says
 
-pub one-digit-odd-entry : One 0 digit-odd-entry-K.ps digit-odd-entry-K.r digit-odd-entry.Post
-one-digit-odd-entry κs a r r′ s s′ p q = p ∙ sym q
+pub one-digit-odd-entry : Says Rattle.digit.proofs.odd_entry.Reads.Post (λ κ (d, _). oddEntry d) (λ κ r _. r)
+one-digit-odd-entry = says
 
 -- limbs
-pub one-limbs-sum : One 0 limbs-sum-K.ps limbs-sum-K.r limbs-sum.Post
-one-limbs-sum κs a r r′ s s′ p q = p ∙ sym q
+pub one-limbs-sum : Says Rattle.limbs.proofs.sum.Reads.Post (λ κ (a, (b, _)). carriedSum a b) (λ κ r _. r)
+one-limbs-sum = says
 
-pub one-limbs-difference : One 0 limbs-difference-K.ps limbs-difference-K.r limbs-difference.Post
-one-limbs-difference κs a r r′ s s′ p q = p ∙ sym q
+pub one-limbs-difference : Says Rattle.limbs.proofs.difference.Reads.Post (λ κ (a, (b, _)). carriedDifference a b) (λ κ r _. r)
+one-limbs-difference = says
 
-pub one-limbs-less-than : One 0 limbs-less-than-K.ps limbs-less-than-K.r limbs-less-than.Post
-one-limbs-less-than κs a r r′ s s′ p q = p ∙ sym q
+pub one-limbs-over : Says Rattle.limbs.proofs.over.Reads.Post (λ κ (m, (a, _)). leb (valueOf m) (valueOf a)) (λ κ r _. r)
+one-limbs-over = says
 
-pub one-limbs-array : One 0 limbs-array-K.ps limbs-array-K.r limbs-array.Post
-one-limbs-array κs a r r′ s s′ p q = p ∙ sym q
+pub one-limbs-plus : Says Rattle.limbs.proofs.plus.Reads.Post (λ κ (m, (a, (b, _))). addedModulo (valueOf m) a b) (λ κ r _. r)
+one-limbs-plus = says
+
+pub one-limbs-minus : Says Rattle.limbs.proofs.minus.Reads.Post (λ κ (m, (a, (b, _))). subtractedModulo (valueOf m) a b) (λ κ r _. r)
+one-limbs-minus = says
+
+pub one-limbs-array : Says Rattle.limbs.proofs.array.Reads.Post (λ κ (e, _). limbsOf e) (λ κ r _. r)
+one-limbs-array = says
+
+pub one-limbs-element-at : Says Rattle.limbs.proofs.element_at.Reads.Post (λ κ (l, (i, _)). elementAt (now l) i) (λ κ r _. r)
+one-limbs-element-at = says
+
+-- words
+pub one-words-byte-at : Says Rattle.words.proofs.byte_at.Reads.Post (λ κ (bytes, (k, _)). getD (now bytes) k 0) (λ κ r _. r)
+one-words-byte-at = says
+
+pub one-words-element : Says Rattle.words.proofs.element.Reads.Post (λ κ (bytes, _). elementOf (number 256 (take 32 (now bytes)))) (λ κ r _. r)
+one-words-element = says
+
+pub one-words-byte-of : Says Rattle.words.proofs.byte_of.Reads.Post (λ κ (x, (k, _)). x / 2 ^ (8 * k) % 256) (λ κ r _. r)
+one-words-byte-of = says
+
+pub one-words-bytes : Says Rattle.words.proofs.bytes.Reads.Post (λ κ (list, _). places 256 32 (pointAt (now list) 0)) (λ κ r _. r)
+one-words-bytes = says
 
 -- answer
-pub one-answer-value : One 0 answer-value-K.ps answer-value-K.r answer-value.Post
-one-answer-value κs a r r′ s s′ p q = p ∙ sym q
+pub one-answer-value : Says Rattle.answer.proofs.value.Reads.Post (λ κ (e, _). valueDone e) (λ κ r _. r)
+one-answer-value = says
 
-pub one-answer-counted : One 0 answer-counted-K.ps answer-counted-K.r answer-counted.Post
-one-answer-counted κs a r r′ s s′ p q = p ∙ sym q
+pub one-answer-counted : Says Rattle.answer.proofs.counted.Reads.Post (λ κ (c, _). countedDone c) (λ κ r _. r)
+one-answer-counted = says
 
-pub one-answer-sum : One 0 answer-sum-K.ps answer-sum-K.r answer-sum.Post
-one-answer-sum κs a r r′ s s′ p q = p ∙ sym q
+pub one-answer-sum : Says Rattle.answer.proofs.sum.Reads.Post (λ κ (e, (additions, (doublings, _))). sumDone e additions doublings) (λ κ r _. r)
+one-answer-sum = says
 
-pub one-answer-refused-value : One 0 answer-refused-value-K.ps answer-refused-value-K.r answer-refused-value.Post
-one-answer-refused-value κs a r r′ s s′ p q = p ∙ sym q
+pub one-answer-refused-value : Says Rattle.answer.proofs.refused_value.Reads.Post (λ κ (n, _). valued n 0) (λ κ r _. r)
+one-answer-refused-value = says
 
-pub one-answer-refused-counted : One 0 answer-refused-counted-K.ps answer-refused-counted-K.r answer-refused-counted.Post
-one-answer-refused-counted κs a r r′ s s′ p q = p ∙ sym q
+pub one-answer-refused-counted : Says Rattle.answer.proofs.refused_counted.Reads.Post (λ κ (n, _). counted n 0 0) (λ κ r _. r)
+one-answer-refused-counted = says
 
-pub one-answer-refused-sum : One 0 answer-refused-sum-K.ps answer-refused-sum-K.r answer-refused-sum.Post
-one-answer-refused-sum κs a r r′ s s′ p q = p ∙ sym q
+pub one-answer-refused-sum : Says Rattle.answer.proofs.refused_sum.Reads.Post (λ κ (number, _). summed number 0 0 0) (λ κ r _. r)
+one-answer-refused-sum = says
 
 -- residue
-pub one-residue-order : One 0 residue-order-K.ps residue-order-K.r residue-order.Post
-one-residue-order κs a r r′ s s′ p q = p ∙ sym q
+pub one-residue-order : Says Rattle.residue.proofs.order.Reads.Post (λ κ _. elementOf L) (λ κ r _. r)
+one-residue-order = says
 
-pub one-residue-identity : One 0 residue-identity-K.ps residue-identity-K.r residue-identity.Post
-one-residue-identity κs a r r′ s s′ p q = p ∙ sym q
+pub one-residue-identity : Says Rattle.residue.proofs.identity.Reads.Post (λ κ _. elementOf 0) (λ κ r _. r)
+one-residue-identity = says
 
-pub one-residue-basepoint : One 0 residue-basepoint-K.ps residue-basepoint-K.r residue-basepoint.Post
-one-residue-basepoint κs a r r′ s s′ p q = p ∙ sym q
+pub one-residue-over : Says Rattle.residue.proofs.over.Reads.Post (λ κ (a, _). leb L (valueOf a)) (λ κ r _. r)
+one-residue-over = says
 
-pub one-residue-over : One 0 residue-over-K.ps residue-over-K.r residue-over.Post
-one-residue-over κs a r r′ s s′ p q = p ∙ sym q
+pub one-residue-plus : Says Rattle.residue.proofs.plus.Reads.Post (λ κ (a, (b, _)). added a b) (λ κ r _. r)
+one-residue-plus = says
 
-pub one-residue-plus : One 0 residue-plus-K.ps residue-plus-K.r residue-plus.Post
-one-residue-plus κs a r r′ s s′ p q = p ∙ sym q
+pub one-residue-minus : Says Rattle.residue.proofs.minus.Reads.Post (λ κ (a, (b, _)). subtracted a b) (λ κ r _. r)
+one-residue-minus = says
 
-pub one-residue-minus : One 0 residue-minus-K.ps residue-minus-K.r residue-minus.Post
-one-residue-minus κs a r r′ s s′ p q = p ∙ sym q
+pub one-residue-negative : Says Rattle.residue.proofs.negative.Reads.Post (λ κ (a, _). negated a) (λ κ r _. r)
+one-residue-negative = says
 
-pub one-residue-negative : One 0 residue-negative-K.ps residue-negative-K.r residue-negative.Post
-one-residue-negative κs a r r′ s s′ p q = p ∙ sym q
+pub one-residue-twice : Says Rattle.residue.proofs.twice.Reads.Post (λ κ (a, _). added a a) (λ κ r _. r)
+one-residue-twice = says
 
-pub one-residue-twice : One 0 residue-twice-K.ps residue-twice-K.r residue-twice.Post
-one-residue-twice κs a r r′ s s′ p q = p ∙ sym q
+pub one-residue-mul-by-pow-2 : Says Rattle.residue.proofs.mul_by_pow_2.Reads.Post (λ κ (a, (k, _)). doubled elements k a) (λ κ r _. r)
+one-residue-mul-by-pow-2 = says
 
-pub one-residue-mul-by-pow-2 : One 0 residue-mul-by-pow-2-K.ps residue-mul-by-pow-2-K.r residue-mul-by-pow-2.Post
-one-residue-mul-by-pow-2 κs a r r′ s s′ p q = p ∙ sym q
+pub one-residue-point-refusal : Says Rattle.residue.proofs.point_refusal.Reads.Post (λ κ (p, _). pointRefusal (now p)) (λ κ r _. r)
+one-residue-point-refusal = says
 
-pub one-residue-element-at : One 1 residue-element-at-K.ps residue-element-at-K.r residue-element-at.Post
-one-residue-element-at κs a r r′ s s′ p q = p ∙ sym q
+pub one-residue-add : Says Rattle.residue.proofs.add.Reads.Post (λ κ (a, (b, _)). groupAdd (now a) (now b)) (λ κ r _. r)
+one-residue-add = says
 
-pub one-residue-point-refusal : One 1 residue-point-refusal-K.ps residue-point-refusal-K.r residue-point-refusal.Post
-one-residue-point-refusal κs a r r′ s s′ p q = p ∙ sym q
+pub one-residue-subtract : Says Rattle.residue.proofs.subtract.Reads.Post (λ κ (a, (b, _)). groupSubtract (now a) (now b)) (λ κ r _. r)
+one-residue-subtract = says
 
-pub one-residue-add : One 2 residue-add-K.ps residue-add-K.r residue-add.Post
-one-residue-add κs a r r′ s s′ p q = p ∙ sym q
+pub one-residue-negate : Says Rattle.residue.proofs.negate.Reads.Post (λ κ (a, _). groupNegate (now a)) (λ κ r _. r)
+one-residue-negate = says
 
-pub one-residue-subtract : One 2 residue-subtract-K.ps residue-subtract-K.r residue-subtract.Post
-one-residue-subtract κs a r r′ s s′ p q = p ∙ sym q
-
-pub one-residue-negate : One 1 residue-negate-K.ps residue-negate-K.r residue-negate.Post
-one-residue-negate κs a r r′ s s′ p q = p ∙ sym q
-
-pub one-residue-double : One 1 residue-double-K.ps residue-double-K.r residue-double.Post
-one-residue-double κs a r r′ s s′ p q = p ∙ sym q
+pub one-residue-double : Says Rattle.residue.proofs.double.Reads.Post (λ κ (a, _). groupDouble (now a)) (λ κ r _. r)
+one-residue-double = says
 
 -- lent
-pub one-lent-not-whole : One 0 lent-not-whole-K.ps lent-not-whole-K.r lent-not-whole.Post
-one-lent-not-whole κs a r r′ s s′ p q = p ∙ sym q
+pub one-lent-not-whole : Says Rattle.lent.proofs.not_whole.Reads.Post (λ κ (len, (unit, _)). notIn unit len) (λ κ r _. r)
+one-lent-not-whole = says
 
-pub one-lent-too-many : One 0 lent-too-many-K.ps lent-too-many-K.r lent-too-many.Post
-one-lent-too-many κs a r r′ s s′ p q = p ∙ sym q
+pub one-lent-too-many : Says Rattle.lent.proofs.too_many.Reads.Post (λ κ (len, (unit, (limit, _))). beyondMost limit unit len) (λ κ r _. r)
+one-lent-too-many = says
 
-pub one-lent-smaller : One 0 lent-smaller-K.ps lent-smaller-K.r lent-smaller.Post
-one-lent-smaller κs a r r′ s s′ p q = p ∙ sym q
+pub one-lent-smaller : Says Rattle.lent.proofs.smaller.Reads.Post (λ κ (a, (b, _)). min a b) (λ κ r _. r)
+one-lent-smaller = says
 
-pub one-lent-lists-not-whole : One 3 lent-lists-not-whole-K.ps lent-lists-not-whole-K.r lent-lists-not-whole.Post
-one-lent-lists-not-whole κs a r r′ s s′ p q = p ∙ sym q
+pub one-lent-pairs : Says Rattle.lent.proofs.pairs.Reads.Post (λ κ (scalars, (points, _)). pairs (now scalars) (now points)) (λ κ r _. r)
+one-lent-pairs = says
 
-pub one-lent-lists-too-many : One 2 lent-lists-too-many-K.ps lent-lists-too-many-K.r lent-lists-too-many.Post
-one-lent-lists-too-many κs a r r′ s s′ p q = p ∙ sym q
+pub one-lent-plain-lists : Says Rattle.lent.proofs.plain_lists.Reads.Post (λ κ (scalars, (points, _)). first (plainLists (now scalars) (now points))) (λ κ r _. r)
+one-lent-plain-lists = says
 
-pub one-lent-any-big : One 1 lent-any-big-K.ps lent-any-big-K.r lent-any-big.Post
-one-lent-any-big κs a r r′ s s′ p q = p ∙ sym q
+pub one-lent-lists : Says Rattle.lent.proofs.lists.Reads.Post (λ κ (scalars, (points, (flags, _))). first (flaggedLists (now scalars) (now points) (now flags))) (λ κ r _. r)
+one-lent-lists = says
 
-pub one-lent-any-flag : One 1 lent-any-flag-K.ps lent-any-flag-K.r lent-any-flag.Post
-one-lent-any-flag κs a r r′ s s′ p q = p ∙ sym q
+pub one-lent-room : Says Rattle.lent.proofs.room.Reads.Post (λ κ (needed-digits, (digits, (needed-limbs, (limbs, _)))). first (enoughRoom needed-digits digits needed-limbs limbs)) (λ κ r _. r)
+one-lent-room = says
 
-pub one-lent-optional-at : One 2 lent-optional-at-K.ps lent-optional-at-K.r lent-optional-at.Post
-one-lent-optional-at κs a r r′ s s′ p q = p ∙ sym q
+pub one-lent-any-big : Says Rattle.lent.proofs.any_big.Reads.Post (λ κ (scalars, _). anyBig (now scalars)) (λ κ r _. r)
+one-lent-any-big = says
 
-pub one-lent-point-over : One 0 lent-point-over-K.ps lent-point-over-K.r lent-point-over.Post
-one-lent-point-over κs a r r′ s s′ p q = p ∙ sym q
+pub one-lent-any-over : Says Rattle.lent.proofs.any_over.Reads.Post (λ κ (limbs, _). anyOver (now limbs)) (λ κ r _. r)
+one-lent-any-over = says
 
-pub one-lent-any-point : One 2 lent-any-point-K.ps lent-any-point-K.r lent-any-point.Post
-one-lent-any-point κs a r r′ s s′ p q = p ∙ sym q
+pub one-lent-plain-contents : Says Rattle.lent.proofs.plain_contents.Reads.Post (λ κ (scalars, (points, _)). first (plainContents (now scalars) (now points))) (λ κ r _. r)
+one-lent-plain-contents = says
 
-pub one-lent-bad-lists : One 2 lent-bad-lists-K.ps lent-bad-lists-K.r lent-bad-lists.Post
-one-lent-bad-lists κs a r r′ s s′ p q = p ∙ sym q
+pub one-lent-contents : Says Rattle.lent.proofs.contents.Reads.Post (λ κ (scalars, (points, (flags, (n, _)))). first (flaggedContents (now scalars) (now points) (now flags) n)) (λ κ r _. r)
+one-lent-contents = says
 
-pub one-lent-any-over : One 1 lent-any-over-K.ps lent-any-over-K.r lent-any-over.Post
-one-lent-any-over κs a r r′ s s′ p q = p ∙ sym q
+-- room
+pub one-room-clear-digits : Says Rattle.room.proofs.clear_digits.Reads.Post (λ κ (digits, (n, _)). cleared (pos 0) n (now digits)) (λ κ _ (digits, _). now digits)
+one-room-clear-digits = says
 
-pub one-lent-absent-below : One 2 lent-absent-below-K.ps lent-absent-below-K.r lent-absent-below.Post
-one-lent-absent-below κs a r r′ s s′ p q = p ∙ sym q
+pub one-room-clear-limbs : Says Rattle.room.proofs.clear_limbs.Reads.Post (λ κ (limbs, (n, _)). cleared 0 n (now limbs)) (λ κ _ (limbs, _). now limbs)
+one-room-clear-limbs = says
 
-pub one-lent-wild : One 0 lent-wild-K.ps lent-wild-K.r lent-wild.Post
-one-lent-wild κs a r r′ s s′ p q = p ∙ sym q
+pub one-room-bytes : Says Rattle.room.proofs.parts.bytes.Reads.Post (λ κ (scalars, (unit, (n, _))). firstUnits unit n (now scalars)) (λ κ r _. now r)
+one-room-bytes = says
 
-pub one-lent-any-wild : One 1 lent-any-wild-K.ps lent-any-wild-K.r lent-any-wild.Post
-one-lent-any-wild κs a r r′ s s′ p q = p ∙ sym q
+pub one-room-limbs : Says Rattle.room.proofs.parts.limbs.Reads.Post (λ κ (points, (unit, (n, _))). firstUnits unit n (now points)) (λ κ r _. now r)
+one-room-limbs = says
 
-pub one-room-copy-digits : Whole 2 room-copy-digits-K.ps room-copy-digits-K.r room-copy-digits.Post (λ κs r s. now (s .0))
-one-room-copy-digits κs a r r′ s s′ p q = p ∙ sym q
+pub one-room-digit-room : Says Rattle.room.proofs.parts.digit_room.Reads.Post (λ κ (digits, (unit, (n, _))). firstUnits unit n (now digits)) (λ κ r _. now r)
+one-room-digit-room = says
 
-pub one-room-copy-window8 : Whole 1 room-copy-window8-K.ps room-copy-window8-K.r room-copy-window8.Post (λ κs r s. now (s .0))
-one-room-copy-window8 κs a r r′ s s′ p q = p ∙ sym q
-
-pub one-room-copy-window64 : Whole 1 room-copy-window64-K.ps room-copy-window64-K.r room-copy-window64.Post (λ κs r s. now (s .0))
-one-room-copy-window64 κs a r r′ s s′ p q = p ∙ sym q
-
-pub one-room-clear-digits : Whole 1 room-clear-digits-K.ps room-clear-digits-K.r room-clear-digits.Post (λ κs r s. now (s .0))
-one-room-clear-digits κs a r r′ s s′ p q = p ∙ sym q
-
-pub one-room-clear-limbs : Whole 1 room-clear-limbs-K.ps room-clear-limbs-K.r room-clear-limbs.Post (λ κs r s. now (s .0))
-one-room-clear-limbs κs a r r′ s s′ p q = p ∙ sym q
+pub one-room-limb-room : Says Rattle.room.proofs.parts.limb_room.Reads.Post (λ κ (windows, (unit, (n, _))). firstUnits unit n (now windows)) (λ κ r _. now r)
+one-room-limb-room = says

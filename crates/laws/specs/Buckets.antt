@@ -9,7 +9,7 @@ use native.Mathlib.Omega.{arith}
 use lib.IntN.{ℤ, pos, negsuc, natAbs}
 use lib.Dec.{eqb}
 use borrow.Author.Tests.{eq-eqb, ne-eqb}
-use Rattle.rules.specs.Group.{Ops, times, timesZ, sum}
+use Rattle.rules.specs.Group.{Ops, times, timesZ, sumBelow}
 use Rattle.rules.specs.Loops.{up, down, moved}
 use Rattle.laws.specs.Group.{Laws, idr, swap-mid}
 use Rattle.laws.specs.Multiples.{times-in, times-e, times-op, times-inv}
@@ -44,7 +44,7 @@ module _ {A : Type 0} (o : Ops A) where
 
   -- the first n buckets, each as often as its number says
   unfoldable pub weighed : (ℕ → A) → ℕ → A
-  weighed b n = sum o (λ k. times o (k + 1) (b k)) n
+  weighed b n = sumBelow o (λ k. times o (k + 1) (b k)) n
 
 module _ {A : Type 0} {o : Ops A} {In : A → Type 0} (l : Laws o In) where
   open Ops o using (op as _⊕_, e, inv)
@@ -58,7 +58,7 @@ module _ {A : Type 0} {o : Ops A} {In : A → Type 0} (l : Laws o In) where
   -- the running sums from r and t on, over n buckets
   ran-is : (b : ℕ → A) (n : ℕ) {r t : A} → ((k : ℕ) → k < n → In (b k)) → In r → In t
       → down (ran o b) n (r, t) .1 ≡ t ⊕ (times o n r ⊕ weighed o b n)
-  unfolding down weighed sum times
+  unfolding down weighed sumBelow times
   ran-is b zero {r} {t} h hr ht = sym (ap (λ x. t ⊕ x) (idl e-in) ∙ idr l ht)
   ran-is b (suc n) {r} {t} h hr ht =
       ran-is b n (λ k p. h k (le-step p)) hrc (op-in ht hrc)
@@ -131,8 +131,8 @@ module _ {A : Type 0} {o : Ops A} {In : A → Type 0} (l : Laws o In) where
 
   -- all points put
   filled-sum : (d : ℕ → ℤ) (P : ℕ → A) (m n : ℕ) → ((i : ℕ) → i < m → natAbs (d i) ≤ n) → ((i : ℕ) → i < m → In (P i))
-      → weighed o (filled o d P m) n ≡ sum o (λ i. timesZ o (d i) (P i)) m
-  unfolding filled up sum
+      → weighed o (filled o d P m) n ≡ sumBelow o (λ i. timesZ o (d i) (P i)) m
+  unfolding filled up sumBelow
   filled-sum d P zero n le h = unfold weighed in (sum-ext o n (λ k p. times-e l (k + 1)) ∙ sum-e l n)
   filled-sum d P (suc m) n le h =
       put-sum (d m) (P m) (filled o d P m) n (le m (lt-suc-self m)) (λ k p. filled-in d P m k (λ i q. h i (le-step q))) (h m (lt-suc-self m))
@@ -140,7 +140,7 @@ module _ {A : Type 0} {o : Ops A} {In : A → Type 0} (l : Laws o In) where
 
   -- and then the running sums: the column's sum of digits times points
   pub buckets-sum : (d : ℕ → ℤ) (P : ℕ → A) (m n : ℕ) → ((i : ℕ) → i < m → natAbs (d i) ≤ n + 1) → ((i : ℕ) → i < m → In (P i))
-      → bucketSum o (filled o d P m) n ≡ sum o (λ i. timesZ o (d i) (P i)) m
+      → bucketSum o (filled o d P m) n ≡ sumBelow o (λ i. timesZ o (d i) (P i)) m
   buckets-sum d P m n le h = bucket-sum (filled o d P m) n (λ k p. filled-in d P m k h) ∙ filled-sum d P m (n + 1) le h
 
 module _ {A : Type 0} (o : Ops A) where

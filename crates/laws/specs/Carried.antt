@@ -19,14 +19,16 @@ pub record Carries {A C : Type 0} (o : Ops A) (u : Ops C) (In : A → Type 0) (�
   pub e-in : In (o .e)
   pub op-in : {a b : A} → In a → In b → In (o .op a b)
   pub sub-in : {a b : A} → In a → In b → In (o .sub a b)
+  pub twice-in : {a : A} → In a → In (o .twice a)
   pub inv-in : {a : A} → In a → In (o .inv a)
   pub to-e : φ (o .e) ≡ u .e
   pub to-op : {a b : A} → In a → In b → φ (o .op a b) ≡ u .op (φ a) (φ b)
   pub to-sub : {a b : A} → In a → In b → φ (o .sub a b) ≡ u .sub (φ a) (φ b)
+  pub to-twice : {a : A} → In a → φ (o .twice a) ≡ u .twice (φ a)
   pub to-inv : {a : A} → In a → φ (o .inv a) ≡ u .inv (φ a)
 
 module _ {A C : Type 0} {o : Ops A} {u : Ops C} {In : A → Type 0} {φ : A → C} (k : Carries o u In φ) where
-  open Carries k using (e-in, op-in, sub-in, inv-in, to-e, to-op, to-sub, to-inv)
+  open Carries k using (e-in, op-in, sub-in, twice-in, inv-in, to-e, to-op, to-sub, to-twice, to-inv)
 
   pub moved-carry : (d : ℤ) {q x : A} → In q → In x → In (moved o d q x) × (φ (moved o d q x) ≡ moved u d (φ q) (φ x))
   unfolding moved
@@ -39,7 +41,7 @@ module _ {A C : Type 0} {o : Ops A} {u : Ops C} {In : A → Type 0} {φ : A → 
   doubled-carry zero h = (h, refl)
   doubled-carry (suc w) h =
       let r = doubled-carry w h in
-      (op-in (r .0) (r .0), to-op (r .0) (r .0) ∙ ap₂ (u .op) (r .1) (r .1))
+      (twice-in (r .0), to-twice (r .0) ∙ ap (u .twice) (r .1))
 
   pub column-carry : (d : ℕ → ℕ → ℤ) (x : ℕ → ℕ → A) (m j : ℕ) {q : A} → ((i : ℕ) → i < m → In (x i (oddEntry (d i j)))) → In q
       → In (column o d x m j q) × (φ (column o d x m j q) ≡ column u d (λ i k. φ (x i k)) m j (φ q))
@@ -58,11 +60,11 @@ module _ {A C : Type 0} {o : Ops A} {u : Ops C} {In : A → Type 0} {φ : A → 
       step : (j : ℕ) → j < n → (q : A) → In q
           → In (turn o d x m d′ x′ m′ j q) × (φ (turn o d x m d′ x′ m′ j q) ≡ turn u d (λ i k. φ (x i k)) m d′ (λ i k. φ (x′ i k)) m′ j (φ q))
       step j p q hq =
-          let a = column-carry d x m j (λ i a. h i j a p) (op-in hq hq) in
+          let a = column-carry d x m j (λ i a. h i j a p) (twice-in hq) in
           let b = column-carry d′ x′ m′ j (λ i a. h′ i j a p) (a .0) in (
             b .0,
             b .1
-                ∙ ap (λ (r : C). column u d′ (λ i k. φ (x′ i k)) m′ j r) (a .1 ∙ ap (λ (r : C). column u d (λ i k. φ (x i k)) m j r) (to-op hq hq)),
+                ∙ ap (λ (r : C). column u d′ (λ i k. φ (x′ i k)) m′ j r) (a .1 ∙ ap (λ (r : C). column u d (λ i k. φ (x i k)) m j r) (to-twice hq)),
           )
 
   -- windows and lookups

@@ -36,14 +36,14 @@ module _ {A : Type 0} (o : Ops A) where
   -- one turn of the walk: a doubling, then the two columns of place j
   module _ (d : ℕ → ℕ → ℤ) (x : ℕ → ℕ → A) (m : ℕ) (d′ : ℕ → ℕ → ℤ) (x′ : ℕ → ℕ → A) (m′ : ℕ) where
     abbrev pub turn : ℕ → A → A
-    turn j q = column o d′ x′ m′ j (column o d x m j (o .op q q))
+    turn j q = column o d′ x′ m′ j (column o d x m j (o .twice q))
 
     pub walk-is : (n : ℕ) → walk o d x m d′ x′ m′ n ≡ down turn n (o .e)
     unfolding walk
     walk-is n = refl
 
     -- top places where every row is 0 may be left out
-    pub walk-top : (k n : ℕ) → o .op (o .e) (o .e) ≡ o .e → k ≤ n
+    pub walk-top : (k n : ℕ) → o .twice (o .e) ≡ o .e → k ≤ n
         → ((i j : ℕ) → i < m → k ≤ j → j < n → d i j ≡ pos 0) → ((i j : ℕ) → i < m′ → k ≤ j → j < n → d′ i j ≡ pos 0)
         → walk o d x m d′ x′ m′ n ≡ walk o d x m d′ x′ m′ k
     unfolding walk

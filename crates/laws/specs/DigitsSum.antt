@@ -8,7 +8,7 @@ use lib.ListN.{length, getD, drop, replicate}
 use lib.Seq.{drop-length}
 use lib.Arith.{digits-mod}
 use lib.IntN.{ℤ, pos, negsuc, negℤ, _+ℤ_, _-ℤ_, _*ℤ_, +ℤ-assoc, +ℤ-comm, +ℤ-idl, +ℤ-idr, negℤ-+ℤ, -ℤ-+ℤ-cancel, +ℤ-negℤ-cancel, pos-*ℤ-pos, pos-*ℤ-negsuc}
-use Rattle.rules.specs.Group.{sum, total}
+use Rattle.rules.specs.Group.{sumBelow, total}
 use Rattle.rules.specs.Rows.{digit, rowSum}
 
 -- ---- a digit as two naturals
@@ -49,7 +49,7 @@ four a b c d =
     ∙ sym (+ℤ-assoc a c (b +ℤ d))
 
 parted : (B : ℕ) (d : ℕ → ℤ) (n : ℕ) → rowSum B d n ≡ pos (parts plus B d n) -ℤ pos (parts minus B d n)
-unfolding rowSum sum total
+unfolding rowSum sumBelow total
 parted B d zero = refl
 parted B d (suc n) =
     let u : ℕ = parts plus B d n in

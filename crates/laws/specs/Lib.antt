@@ -20,9 +20,9 @@ pub mod RowsRule
 pub mod RowsRead
 pub mod Conditions
 pub mod Answers
-pub mod Room
 pub mod Parts
-pub mod Laid
+pub mod Running
+pub mod Cells
+pub mod BucketWalk
 pub mod Ring
 pub mod RingMod
-pub mod Numerals

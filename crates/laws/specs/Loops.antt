@@ -53,7 +53,7 @@ module _ {A : Type 0} {f g : ℕ → A → A} where
   down-ext (suc n) q h = ap (down f n) (h n (lt-suc-self n) q) ∙ down-ext n (g n q) (λ j p. h j (le-step p))
 
 module _ {A : Type 0} (o : Ops A) where
-  pub doubled-more : (w : ℕ) (q : A) → doubled o (w + 1) q ≡ o .op (doubled o w q) (doubled o w q)
+  pub doubled-more : (w : ℕ) (q : A) → doubled o (w + 1) q ≡ o .twice (doubled o w q)
   unfolding doubled
   doubled-more w q = ap (λ (k : ℕ). doubled o k q) (add-one w)
 

@@ -7,8 +7,8 @@ use native.Mathlib.Nat.{add-sub-cancel-left, mul-suc, mul-zero, mul-le-mul-left,
 use native.Mathlib.Decide.{decLt, ℕ-discrete}
 use native.Mathlib.Numerals.{add-one}
 use native.Mathlib.Omega.{arith}
-use lib.ListN.{length, getD, take, drop, length-drop, length-append, take-append-drop, List·getD-append}
-use lib.Seq.{length-take-le, take-append-le, drop-append-le, take-at, drop-at, take-length, drop-drop, getD-take, getD-drop, getD-append-add, take-add}
+use lib.ListN.{length, getD, take, drop, length-drop, length-append, take-append-drop}
+use lib.Seq.{length-take-le, take-append-le, drop-append-le, take-at, drop-at, take-length, drop-drop, getD-take, getD-drop, take-add}
 use lib.Dec.{eqb}
 use borrow.Author.Tests.{eq-eqb, ne-eqb}
 use Rattle.rules.specs.Values.{part, flat}
@@ -26,14 +26,6 @@ module _ {A : Type 0} (a n : ℕ) (l ys : List A) (long : length ys ≡ n) (fits
 
   pub stored-length : length (stored a n l ys) ≡ length l
   stored-length = simp (length-append, length-drop) (omega (arith, front))
-
-  past : (k : ℕ) (z : A) → a ≤ k → getD (stored a n l ys) k z ≡ getD (ys ++ drop n (drop a l)) (k - a) z
-  past k z h =
-      let e : k ≡ length (take a l) + (k - a) = omega (arith, front) in
-      ap (λ (i : ℕ). getD (stored a n l ys) i z) e ∙ getD-append-add (take a l) (ys ++ drop n (drop a l)) (k - a) z
-
-  pub stored-here : (k : ℕ) (z : A) → a ≤ k → k < a + n → getD (stored a n l ys) k z ≡ getD ys (k - a) z
-  stored-here k z h g = past k z h ∙ List·getD-append ys (drop n (drop a l)) z (k - a) (omega arith)
 
   -- the list from its end on is as it was
   pub stored-rest : (m : ℕ) → a + n ≤ m → drop m (stored a n l ys) ≡ drop m l

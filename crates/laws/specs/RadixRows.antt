@@ -7,13 +7,13 @@ use native.Mathlib.Omega.{arith}
 use native.Mathlib.Decide.{decLt}
 use lib.ListN.{length, replicate, length-append, length-replicate, List·getD-append}
 use lib.Seq.{getD-append-add}
-use lib.Pow.{pow-mono, pow-lt, shr-mod}
-use lib.IntN.{ℤ, pos, negsuc, natAbs, subℕ}
+use lib.Pow.{pow-mono, shr-mod}
+use lib.IntN.{ℤ, pos, natAbs, subℕ}
 use lib.Signed.{mag, natAbs-le}
 use Rattle.rules.specs.Numbers.{rowBound, scalarBound}
-use Rattle.rules.specs.Rows.{digit, usedPlaces, centred, above, radixDigits, radixRow}
+use Rattle.rules.specs.Rows.{digit, UpTo, usedPlaces, centred, above, radixDigits, radixRow}
 use Rattle.laws.specs.DigitsSum.{getD-zeros}
-use Rattle.laws.specs.Digits.{carry, carry-low, centred-window, centred-range, above-at, above-le, after, after-next}
+use Rattle.laws.specs.Digits.{carry, centred-window, centred-range, above-at, above-le, after, after-next}
 
 -- a scalar that the engines take has a row
 pub scalar-has-row : {s : ℕ} → s < scalarBound → s < rowBound
@@ -34,14 +34,14 @@ by-width P p4 p5 p6 p7 p8 w lo hi =
     go (suc (suc (suc (suc zero)))) h = p8
     go (suc (suc (suc (suc (suc k))))) h = absurd (omega arith)
 
--- the places used: how many there are, and what the last of them weighs
-record Place (w : ℕ) : Type 0 where
-  some : 1 ≤ usedPlaces w
-  inside : usedPlaces w ≤ 64
-  low : 252 ≤ w * (usedPlaces w - 1)
-  flat : 5 ≤ w → 256 ≤ w * (usedPlaces w - 1) + (w - 2)
+-- the places used: how many there are, what the last of them weighs, and that each starts within 256 bits
+pub record Place (w : ℕ) : Type 0 where
+  pub some : 1 ≤ usedPlaces w
+  pub inside : usedPlaces w ≤ 64
+  pub low : 252 ≤ w * (usedPlaces w - 1)
+  pub starts : (i : ℕ) → i < usedPlaces w → i * w ≤ 256
 
-place : (w : ℕ) → 4 ≤ w → w ≤ 8 → Place w
+pub place : (w : ℕ) → 4 ≤ w → w ≤ 8 → Place w
 unfolding usedPlaces
 place = by-width Place (omega arith) (omega arith) (omega arith) (omega arith) (omega arith)
 
@@ -123,14 +123,6 @@ module _ (w : ℕ) (lo : 4 ≤ w) (hi : w ≤ 8) where
   unfolding rowBound
   radix-last-8 s l = last-le 3 s (le-trans (le-of-lt l) (pow-mono {i = 255} {j = w * (usedPlaces w - 1) + 3} (omega (arith, place w lo hi .low))))
 
-  -- from w = 5 on, centring it would change nothing: nothing is carried out of it
-  pub radix-last-flat : (s : ℕ) → 5 ≤ w → s < 2 ^ 256 → above w (after (above w) (usedPlaces w - 1) s) ≡ 0
-  unfolding above
-  radix-last-flat s h l =
-      let m : after (above w) (usedPlaces w - 1) s ≤ 2 ^ (w - 2) =
-      last-le (w - 2) s (le-trans (le-of-lt l) (pow-mono {i = 256} {j = w * (usedPlaces w - 1) + (w - 2)} (place w lo hi .flat h))) in
-      carry-low w (after (above w) (usedPlaces w - 1) s) some (omega (arith, pow-lt {i = w - 2} {j = w - 1} (omega arith)))
-
   -- what holds of the digits below the last place, of the last and of 0 holds of all
   each : (P : ℤ → Type 0) (s : ℕ) → ((i : ℕ) → i + 1 < usedPlaces w → P (digit (radixRow w s) i)) → P (pos (after (above w) (usedPlaces w - 1) s)) → P (pos 0)
       → (i : ℕ) → P (digit (radixRow w s) i)
@@ -145,6 +137,10 @@ module _ (w : ℕ) (lo : 4 ≤ w) (hi : w ≤ 8) where
 
   half : 8 ≤ 2 ^ (w - 1)
   half = pow-mono {i = 3} {j = w - 1} (omega arith)
+
+  -- from w = 5 on the last digit lies in the range of the others
+  pub radix-last-range : (s : ℕ) → 5 ≤ w → s < rowBound → mag (digit (radixRow w s) (usedPlaces w - 1)) < 2 ^ (w - 1)
+  radix-last-range s h l = rw (radix-last s) (omega (arith, radix-last-8 s l, pow-mono {i = 4} {j = w - 1} (omega arith)))
 
   -- each digit of a row of 32 bytes fits i8
   pub radix-byte : (s : ℕ) → s < 2 ^ 256 → (i : ℕ) → mag (digit (radixRow w s) i) < 128
@@ -177,7 +173,7 @@ module _ (w : ℕ) (lo : 4 ≤ w) (hi : w ≤ 8) where
     pub radix-window : i + 1 < usedPlaces w → digit (radixRow w N) i ≡ subℕ (N / 2 ^ (w * i) % 2 ^ w + c) (carry w (N / 2 ^ (w * i) % 2 ^ w + c) * 2 ^ w)
     radix-window h = radix-digit N i h ∙ ap (centred w) state ∙ centred-window w (N / 2 ^ (w * i)) c some bit
 
-    -- at the last place all of it stays: for 32 bytes it is the window with the carry, and from w = 5 on nothing is carried out of it
+    -- at the last place all of it stays: for 32 bytes it is the window with the carry
     pub radix-window-last : i + 1 ≡ usedPlaces w → N < 2 ^ 256 → digit (radixRow w N) i ≡ pos (N / 2 ^ (w * i) % 2 ^ w + c)
     radix-window-last h l =
         let e : i ≡ usedPlaces w - 1 = omega arith in
@@ -185,30 +181,17 @@ module _ (w : ℕ) (lo : 4 ≤ w) (hi : w ≤ 8) where
         let t : N / 2 ^ (w * i) % 2 ^ w ≡ N / 2 ^ (w * i) = shr-mod {n = N} w (w * i) (lt-of-lt-of-le l (pow-mono {i = 256} {j = w + w * i} (omega arith))) in
         rw t (ap (digit (radixRow w N)) e ∙ radix-last N ∙ ap (λ (x : ℕ). pos (after (above w) x N)) (sym e) ∙ ap pos state)
 
-    pub radix-window-flat : i + 1 ≡ usedPlaces w → 5 ≤ w → N < 2 ^ 256 → carry w (N / 2 ^ (w * i) % 2 ^ w + c) ≡ 0
-    radix-window-flat h g l =
-        let e : i ≡ usedPlaces w - 1 = omega arith in
-        let z : above w (N / 2 ^ (w * i) + c) ≡ 0 = ap (above w) (sym state ∙ ap (λ (x : ℕ). after (above w) x N) e) ∙ radix-last-flat N g l in
-        none _ _ (sym (above-at w N (w * i) c) ∙ z)
-      where
-        none : (x y : ℕ) → x + y ≡ 0 → y ≡ 0
-        none x y q = omega arith
-
 -- at w = 4 the last digit is 0 to 8
-pub radix-16-last : (s : ℕ) → s < rowBound → (r : ℕ) × (digit (radixRow 4 s) 63 ≡ pos r) × (r ≤ 8)
+pub radix-16-last : (s : ℕ) → s < rowBound → UpTo 8 (digit (radixRow 4 s) 63)
 unfolding usedPlaces
 radix-16-last s l =
     let lo : 4 ≤ 4 = omega arith in
     let hi : 4 ≤ 8 = omega arith in
     (after (above 4) 63 s, radix-last 4 lo hi s, radix-last-8 4 lo hi s l)
 
--- at w = 8 it is 0 or 1, and the one before it may be -128
-pub radix-256-last : (s : ℕ) → s < 2 ^ 256 → (r : ℕ) × (digit (radixRow 8 s) 32 ≡ pos r) × (r ≤ 1)
-unfolding usedPlaces
+-- at w = 8 it is 0 or 1
+pub radix-256-last : (s : ℕ) → s < rowBound → UpTo 1 (digit (radixRow 8 s) 32)
+unfolding usedPlaces rowBound
 radix-256-last s l =
     let hi : 8 ≤ 8 = omega arith in
-    (after (above 8) 32 s, radix-last 8 (omega arith) hi s, left-le 8 32 0 s (omega arith) (le-of-lt l))
-
-pub radix-lowest : digit (radixRow 8 (2 ^ 255 - 1)) 31 ≡ negsuc 127
-unfolding radixRow usedPlaces radixDigits centred above
-radix-lowest = refl
+    (after (above 8) 32 s, radix-last 8 (omega arith) hi s, left-le 8 32 0 s (omega arith) (le-trans (le-of-lt l) (pow-mono {i = 255} {j = 256} (omega arith))))

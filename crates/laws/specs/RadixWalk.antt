@@ -5,7 +5,7 @@ use Prim.Native.Nat.{ℕ, _+_, _^_, _<_, _≤_}
 use native.Mathlib.Nat.{lt-of-lt-of-le}
 use native.Mathlib.Omega.{arith}
 use lib.IntN.{ℤ, pos}
-use Rattle.rules.specs.Group.{Ops, times, timesZ, sum}
+use Rattle.rules.specs.Group.{Ops, times, timesZ, sumBelow}
 use Rattle.rules.specs.Loops.{up, down, doubled}
 use Rattle.rules.specs.Rows.{rowSum}
 use Rattle.laws.specs.Group.{Laws}
@@ -31,17 +31,17 @@ module _ {C : Type 0} {u : Ops C} {In : C → Type 0} (l : Laws u In) (w : ℕ) 
   multiple i j = timesZ u (d i j) (P i)
 
   abbrev placed : ℕ → C
-  placed j = sum u (λ i. multiple i j) m
+  placed j = sumBelow u (λ i. multiple i j) m
 
   placed-is : (j : ℕ) {q : C} → In q → radixColumn u multiple m j q ≡ u .op q (placed j)
   unfolding radixColumn
   placed-is j h = up-sum l (λ i. multiple i j) (λ i r. u .op r (multiple i j)) m (λ i p. timesZ-in l (d i j) (point-in i p)) (λ i p r _. refl) h
 
-  walk-sum : (n : ℕ) → ((i : ℕ) → i < m → rowSum (2 ^ w) (d i) n ≡ pos (s i)) → down (radixTurn u multiple m w) n (u .e) ≡ sum u (λ i. times u (s i) (P i)) m
+  walk-sum : (n : ℕ) → ((i : ℕ) → i < m → rowSum (2 ^ w) (d i) n ≡ pos (s i)) → down (radixTurn u multiple m w) n (u .e) ≡ sumBelow u (λ i. times u (s i) (P i)) m
   walk-sum n row = radix-sum l w d P s m placed (radixTurn u multiple m w) n point-in (λ j _ r h. placed-is j (doubled-in l w h)) (λ j _. refl) row
 
   walk-from : (n : ℕ) → ((i : ℕ) → i < m → rowSum (2 ^ w) (d i) (n + 1) ≡ pos (s i))
-      → down (radixTurn u multiple m w) n (radixColumn u multiple m n (u .e)) ≡ sum u (λ i. times u (s i) (P i)) m
+      → down (radixTurn u multiple m w) n (radixColumn u multiple m n (u .e)) ≡ sumBelow u (λ i. times u (s i) (P i)) m
   walk-from n row =
       ap (down (radixTurn u multiple m w) n) (placed-is n (l .e-in) ∙ l .idl (sum-in l m (λ i p. timesZ-in l (d i n) (point-in i p))))
       ∙ radix-from l w d P s m placed (radixTurn u multiple m w) n point-in (λ j _ r h. placed-is j (doubled-in l w h)) (λ j _. refl) row
@@ -71,13 +71,13 @@ module _ {A C : Type 0} {o : Ops A} {u : Ops C} {In : A → Type 0} {φ : A → 
 module _ {A C : Type 0} {o : Ops A} {u : Ops C} {In : A → Type 0} {Un : C → Type 0} {φ : A → C} (k : Carries o u In φ) (l : Laws u Un) (w : ℕ) (t : ℕ → ℕ → A)
     (d : ℕ → ℕ → ℤ) (P : ℕ → C) (s : ℕ → ℕ) (m n : ℕ) (point-in : (i : ℕ) → i < m → Un (P i))
     (entry : (i j : ℕ) → i < m → j < n → In (t i j) × (φ (t i j) ≡ timesZ u (d i j) (P i))) (row : (i : ℕ) → i < m → rowSum (2 ^ w) (d i) n ≡ pos (s i)) where
-  pub radix-walk : φ (down (radixTurn o t m w) n (o .e)) ≡ sum u (λ i. times u (s i) (P i)) m
+  pub radix-walk : φ (down (radixTurn o t m w) n (o .e)) ≡ sumBelow u (λ i. times u (s i) (P i)) m
   radix-walk =
       places-carry k w t (λ i j. timesZ u (d i j) (P i)) m n entry n (omega arith) (k .e-in) .1
       ∙ ap (down (radixTurn u (λ i j. timesZ u (d i j) (P i)) m w) n) (k .to-e)
       ∙ walk-sum l w d P s m point-in n row
 
-  pub radix-walk-from : (b : ℕ) → n ≡ b + 1 → φ (down (radixTurn o t m w) b (radixColumn o t m b (o .e))) ≡ sum u (λ i. times u (s i) (P i)) m
+  pub radix-walk-from : (b : ℕ) → n ≡ b + 1 → φ (down (radixTurn o t m w) b (radixColumn o t m b (o .e))) ≡ sumBelow u (λ i. times u (s i) (P i)) m
   radix-walk-from b e =
       let v : ℕ → ℕ → C = λ i j. timesZ u (d i j) (P i) in
       let a = column-carry k w t v m n entry b (omega arith) (k .e-in) in

@@ -6,12 +6,12 @@ use mathlib.Core.Logic.{_↔_}
 use Prim.Native.Nat.{ℕ, zero, suc, _^_, _≤_, _<_}
 use native.Mathlib.Omega.{arith}
 use lib.ListN.{length}
-use lib.IntN.{ℤ, pos, negsuc, natAbs}
+use lib.IntN.{ℤ, pos, negsuc}
 use lib.Dec.{ltb}
 use borrow.Author.Tests.{eqb-true, eq-eqb, ltb-true, lt-ltb, not-false}
-use Rattle.rules.specs.Numbers.{rowBound, any}
+use Rattle.rules.specs.Numbers.{rowBound, anyBelow}
 use Rattle.rules.specs.Rows.{digit, rowSum, nafRow, radixRow, sameDigit, sameRow, noScalar}
-use Rattle.laws.specs.RowsRule.{naf-obeys, radix-obeys}
+use Rattle.laws.specs.RowsRule.{naf-obeys, radix-sum}
 
 both : (t u : Bool) → (t && u) ≡ true → (t ≡ true) × (u ≡ true)
 both true u e = (refl, e)
@@ -52,21 +52,21 @@ pub same-row : (a b : List ℤ) → (sameRow a b ≡ true) ↔ (a ≡ b)
 same-row a b = (same-row-eq a b, λ e. subst (λ l. sameRow a l ≡ true) e (same-row-refl a))
 
 -- the same as a search over the places for digits that differ
-any-first : (f : ℕ → Bool) (n : ℕ) → any f (suc n) ≡ (f 0 || any (λ j. f (suc j)) n)
-unfolding any
+any-first : (f : ℕ → Bool) (n : ℕ) → anyBelow f (suc n) ≡ (f 0 || anyBelow (λ j. f (suc j)) n)
+unfolding anyBelow
 any-first f zero = or-false (f 0)
   where
     or-false : (b : Bool) → (false || b) ≡ (b || false)
     or-false true = refl
     or-false false = refl
-any-first f (suc n) = ap (λ (b : Bool). b || f (suc n)) (any-first f n) ∙ or-assoc (f 0) (any (λ j. f (suc j)) n) (f (suc n))
+any-first f (suc n) = ap (λ (b : Bool). b || f (suc n)) (any-first f n) ∙ or-assoc (f 0) (anyBelow (λ j. f (suc j)) n) (f (suc n))
   where
     or-assoc : (a b c : Bool) → ((a || b) || c) ≡ (a || (b || c))
     or-assoc true b c = refl
     or-assoc false b c = refl
 
-pub same-row-search : (a b : List ℤ) (n : ℕ) → length a ≡ n → length b ≡ n → sameRow a b ≡ not (any (λ j. not (sameDigit (digit a j) (digit b j))) n)
-unfolding sameRow any
+pub same-row-search : (a b : List ℤ) (n : ℕ) → length a ≡ n → length b ≡ n → sameRow a b ≡ not (anyBelow (λ j. not (sameDigit (digit a j) (digit b j))) n)
+unfolding sameRow anyBelow
 same-row-search [] [] zero k l = refl
 same-row-search [] [] (suc n) k l = absurd (omega arith)
 same-row-search [] (y ∷ b) n k l = absurd (omega arith)
@@ -75,7 +75,7 @@ same-row-search (x ∷ a) (y ∷ b) zero k l = absurd (omega arith)
 same-row-search (x ∷ a) (y ∷ b) (suc n) k l =
     let f : ℕ → Bool = λ j. not (sameDigit (digit (x ∷ a) j) (digit (y ∷ b) j)) in
     ap (λ (t : Bool). sameDigit x y && t) (same-row-search a b n (omega arith) (omega arith))
-    ∙ turned (sameDigit x y) (any (λ j. f (suc j)) n)
+    ∙ turned (sameDigit x y) (anyBelow (λ j. f (suc j)) n)
     ∙ ap not (sym (any-first f n))
   where
     turned : (s t : Bool) → (s && not t) ≡ not (not s || t)
@@ -104,11 +104,4 @@ pub naf-reads : (w : ℕ) → 2 ≤ w → (row : List ℤ) → (noScalar (nafRow
 naf-reads w lo = reads (nafRow w) (λ l. rowSum 2 (digit l) 256) (λ s l. naf-obeys w lo s l .sum-is)
 
 pub radix-reads : (w : ℕ) → 4 ≤ w → w ≤ 8 → (row : List ℤ) → (noScalar (radixRow w) (rowSum (2 ^ w) (digit row) 64) row ≡ false) ↔ ((s : ℕ) × (s < rowBound) × (row ≡ radixRow w s))
-radix-reads w lo hi = reads (radixRow w) (λ l. rowSum (2 ^ w) (digit l) 64) (λ s _. radix-obeys w lo hi s .sum-is)
-
--- recoded, a scalar reads back
-pub naf-back : (w : ℕ) → 2 ≤ w → (s : ℕ) → s < rowBound → natAbs (rowSum 2 (digit (nafRow w s)) 256) ≡ s
-naf-back w lo s l = ap natAbs (naf-obeys w lo s l .sum-is)
-
-pub radix-back : (w : ℕ) → 4 ≤ w → w ≤ 8 → (s : ℕ) → natAbs (rowSum (2 ^ w) (digit (radixRow w s)) 64) ≡ s
-radix-back w lo hi s = ap natAbs (radix-obeys w lo hi s .sum-is)
+radix-reads w lo hi = reads (radixRow w) (λ l. rowSum (2 ^ w) (digit l) 64) (λ s _. radix-sum w lo hi s)

@@ -11,10 +11,10 @@ use lib.Pow.{pow-add, pow-mono, pow-pos}
 use lib.IntN.{ℤ, pos, negsuc, natAbs, ℤ-discrete}
 use lib.Signed.{mag}
 use Rattle.rules.specs.Numbers.{rowBound}
-use Rattle.rules.specs.Rows.{digit, IsNaf, IsRadix, usedPlaces, above, nafDigits, nafRow, radixDigits, radixRow}
+use Rattle.rules.specs.Rows.{digit, rowSum, IsNaf, IsRadix, usedPlaces, above, nafDigits, nafRow, radixDigits, radixRow}
 use Rattle.laws.specs.DigitsSum.{plus, minus, same-parts, weigh, weigh-zeros, weigh-none, getD-zeros, Level, level, sum-of, same-low}
 use Rattle.laws.specs.Digits.{wide, half-even, centred-above, above-le, above-zero, after}
-use Rattle.laws.specs.RadixRows.{radix-length, radix-range, radix-rest}
+use Rattle.laws.specs.RadixRows.{radix-length, radix-range, radix-rest, radix-last-range, radix-16-last, radix-256-last}
 use Rattle.laws.specs.NafRows.{nafDigit, nafNext, by-parity, naf-length, naf-digit-odd, naf-small, naf-apart}
 
 -- ---- NAF
@@ -151,20 +151,30 @@ unfolding weigh
 weigh-padded f z B [] k = weigh-none f z B (replicate k (pos 0)) (getD-zeros k)
 weigh-padded f z B (d ∷ l) k = ap (λ (x : ℕ). f d + B * x) (weigh-padded f z B l k)
 
--- the row of any number obeys the rule
-pub radix-obeys : (w : ℕ) → 4 ≤ w → w ≤ 8 → (s : ℕ) → IsRadix w (radixRow w s) s
+-- the row of any number weighs that number
+pub radix-sum : (w : ℕ) → 4 ≤ w → w ≤ 8 → (s : ℕ) → rowSum (2 ^ w) (digit (radixRow w s)) 64 ≡ pos s
 unfolding radixRow
-radix-obeys w lo hi s =
+radix-sum w lo hi s =
     let l : List ℤ = radixDigits w (usedPlaces w - 1) s in
     let k : ℕ = 64 - usedPlaces w in
+    sum-of (2 ^ w) (l ++ replicate k (pos 0)) 64 s (radix-length w lo hi s)
+    (rw (weigh-padded plus refl (2 ^ w) l k, weigh-padded minus refl (2 ^ w) l k) (radix-weighs w (usedPlaces w - 1) s (omega arith)))
+
+-- the row of a scalar below the bound obeys the rule
+pub radix-obeys : (w : ℕ) → 4 ≤ w → w ≤ 8 → (s : ℕ) → s < rowBound → IsRadix w (radixRow w s) s
+radix-obeys w lo hi s l =
     record {
       long = radix-length w lo hi s;
       range = radix-range w lo hi s;
       rest = radix-rest w lo hi s;
-      sum-is =
-          sum-of (2 ^ w) (l ++ replicate k (pos 0)) 64 s (radix-length w lo hi s)
-          (rw (weigh-padded plus refl (2 ^ w) l k, weigh-padded minus refl (2 ^ w) l k) (radix-weighs w (usedPlaces w - 1) s (omega arith)));
+      last-at-4 = λ e. rw e (radix-16-last s l);
+      last-at-5-to-7 = λ h _. radix-last-range w lo hi s h l;
+      last-at-8 = λ e. (byte e, rw e (radix-256-last s l));
+      sum-is = radix-sum w lo hi s;
     }
+  where
+    byte : w ≡ 8 → mag (digit (radixRow w s) 31) < 128
+    byte e = rw e (radix-range 8 (omega arith) (omega arith) s 31 (unfold usedPlaces in (omega arith)))
 
 near : (H : ℕ) (x y : ℤ) → mag x < H → mag y < H → plus x + minus y < 2 * H
 near H (pos a) (pos b) h k = omega arith
@@ -208,5 +218,5 @@ radix-unique w lo hi a b s h k =
     (λ i q. h .rest i (omega arith)) (λ i q. k .rest i (omega arith))
     (level (2 ^ w) a b 64 s (h .long) (k .long) (h .sum-is) (k .sum-is))
 
-pub radix-only : (w : ℕ) → 4 ≤ w → w ≤ 8 → (row : List ℤ) (s : ℕ) → IsRadix w row s → row ≡ radixRow w s
-radix-only w lo hi row s h = radix-unique w lo hi row (radixRow w s) s h (radix-obeys w lo hi s)
+pub radix-only : (w : ℕ) → 4 ≤ w → w ≤ 8 → (row : List ℤ) (s : ℕ) → s < rowBound → IsRadix w row s → row ≡ radixRow w s
+radix-only w lo hi row s l h = radix-unique w lo hi row (radixRow w s) s h (radix-obeys w lo hi s l)

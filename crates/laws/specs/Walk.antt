@@ -4,11 +4,11 @@ use Prim.Native.Nat.{ℕ, zero, suc, _%_, _^_, _<_}
 use native.Mathlib.Nat.{not-suc-le-zero}
 use native.Mathlib.Omega.{arith}
 use lib.IntN.{ℤ, pos, negsuc, natAbs}
-use Rattle.rules.specs.Group.{Ops, times, timesZ, sum}
+use Rattle.rules.specs.Group.{Ops, times, timesZ, sumBelow}
 use Rattle.rules.specs.Loops.{oddEntry, moved, column, walk}
 use Rattle.rules.specs.Rows.{rowSum}
 use Rattle.rules.specs.Windows.{odd}
-use Rattle.laws.specs.Group.{Laws, idr, sub-in}
+use Rattle.laws.specs.Group.{Laws, idr, sub-in, twice-in}
 use Rattle.laws.specs.Multiples.{times-in, times-two, times-e, times-op}
 use Rattle.laws.specs.Sums.{sum-none, sum-ext, sum-in, sum-op}
 use Rattle.laws.specs.Places.{up-sum, down-sum, columns-sum, row-times, scalars-sum}
@@ -27,7 +27,7 @@ pub record Windowed {A : Type 0} (o : Ops A) (In : A → Type 0) (d : ℕ → �
 
 module _ {A : Type 0} {o : Ops A} {In : A → Type 0} (l : Laws o In) where
   open Ops o using (op as _⊕_, sub, e)
-  open Laws l using (e-in, op-in, inv-in, assoc, idl, sub-is)
+  open Laws l using (e-in, op-in, inv-in, assoc, idl, sub-is, twice-is)
 
   infixl 6 _⊕_
   pub moved-in : (d : ℤ) {q x : A} → In q → In x → In (moved o d q x)
@@ -53,7 +53,7 @@ module _ {A : Type 0} {o : Ops A} {In : A → Type 0} (l : Laws o In) where
       ∙ ap (o .inv) (odd-named l (negsuc n) (h (λ q. omega (arith, ap natAbs q))) hp)
 
   pub column-sum : (d : ℕ → ℕ → ℤ) (x : ℕ → ℕ → A) (m j : ℕ) {q : A} → ((i : ℕ) → i < m → In (x i (oddEntry (d i j)))) → In q
-      → column o d x m j q ≡ q ⊕ sum o (λ i. term o d x i j) m
+      → column o d x m j q ≡ q ⊕ sumBelow o (λ i. term o d x i j) m
   unfolding column
   column-sum d x m j h hq =
       up-sum l (λ i. term o d x i j) (λ i r. moved o (d i j) r (x i (oddEntry (d i j)))) m
@@ -62,7 +62,7 @@ module _ {A : Type 0} {o : Ops A} {In : A → Type 0} (l : Laws o In) where
   -- the walk over entries as they stand
   pub walk-entries : (d : ℕ → ℕ → ℤ) (x : ℕ → ℕ → A) (m : ℕ) (d′ : ℕ → ℕ → ℤ) (x′ : ℕ → ℕ → A) (m′ n : ℕ) → Named In d x m n → Named In d′ x′ m′ n
       → walk o d x m d′ x′ m′ n
-      ≡ sum o (λ i. sum o (λ j. times o (2 ^ j) (term o d x i j)) n) m ⊕ sum o (λ i. sum o (λ j. times o (2 ^ j) (term o d′ x′ i j)) n) m′
+      ≡ sumBelow o (λ i. sumBelow o (λ j. times o (2 ^ j) (term o d x i j)) n) m ⊕ sumBelow o (λ i. sumBelow o (λ j. times o (2 ^ j) (term o d′ x′ i j)) n) m′
   unfolding walk
   walk-entries d x m d′ x′ m′ n h h′ =
       down-sum l 2 (λ j. C j ⊕ C′ j) (turn o d x m d′ x′ m′) n (λ j p. op-in (hC j p) (hC′ j p)) step e-in
@@ -73,10 +73,10 @@ module _ {A : Type 0} {o : Ops A} {In : A → Type 0} (l : Laws o In) where
       (columns-sum l 2 (term o d′ x′) m′ n (λ i j p q. moved-in (d′ i j) e-in (h′ i j p q)))
     where
       C : ℕ → A
-      C j = sum o (λ i. term o d x i j) m
+      C j = sumBelow o (λ i. term o d x i j) m
 
       C′ : ℕ → A
-      C′ j = sum o (λ i. term o d′ x′ i j) m′
+      C′ j = sumBelow o (λ i. term o d′ x′ i j) m′
 
       hC : (j : ℕ) → j < n → In (C j)
       hC j q = sum-in l m (λ i p. moved-in (d i j) e-in (h i j p q))
@@ -86,13 +86,13 @@ module _ {A : Type 0} {o : Ops A} {In : A → Type 0} (l : Laws o In) where
 
       step : (j : ℕ) → j < n → (r : A) → In r → turn o d x m d′ x′ m′ j r ≡ times o 2 r ⊕ (C j ⊕ C′ j)
       step j p r hr =
-          ap (λ (q : A). column o d′ x′ m′ j q) (column-sum d x m j (λ i a. h i j a p) (op-in hr hr))
-          ∙ column-sum d′ x′ m′ j (λ i a. h′ i j a p) (op-in (op-in hr hr) (hC j p))
-          ∙ assoc (op-in hr hr) (hC j p) (hC′ j p)
-          ∙ ap (λ y. y ⊕ (C j ⊕ C′ j)) (sym (times-two l hr))
+          ap (λ (q : A). column o d′ x′ m′ j q) (column-sum d x m j (λ i a. h i j a p) (twice-in l hr))
+          ∙ column-sum d′ x′ m′ j (λ i a. h′ i j a p) (op-in (twice-in l hr) (hC j p))
+          ∙ assoc (twice-in l hr) (hC j p) (hC′ j p)
+          ∙ ap (λ y. y ⊕ (C j ⊕ C′ j)) (twice-is hr ∙ sym (times-two l hr))
 
   row-digits : (d : ℕ → ℕ → ℤ) (x : ℕ → ℕ → A) (P : ℕ → A) (m n : ℕ) → Windowed o In d x P m n
-      → sum o (λ i. sum o (λ j. times o (2 ^ j) (term o d x i j)) n) m ≡ sum o (λ i. timesZ o (rowSum 2 (d i) n) (P i)) m
+      → sumBelow o (λ i. sumBelow o (λ j. times o (2 ^ j) (term o d x i j)) n) m ≡ sumBelow o (λ i. timesZ o (rowSum 2 (d i) n) (P i)) m
   row-digits d x P m n h =
       sum-ext o m (λ i p. sum-ext o n (λ j q. ap (times o (2 ^ j)) (ap (moved o (d i j) e) (h .entry-is i j p q) ∙ moved-odd (d i j) (h .odd-digit i j p q) (h .point-in i p)))
       ∙ sym (row-times l 2 (d i) n (h .point-in i p)))
@@ -103,7 +103,7 @@ module _ {A : Type 0} {o : Ops A} {In : A → Type 0} (l : Laws o In) where
   -- the walk over windows: every point as often as its row says
   pub walk-digits : (d : ℕ → ℕ → ℤ) (x : ℕ → ℕ → A) (P : ℕ → A) (m : ℕ) (d′ : ℕ → ℕ → ℤ) (x′ : ℕ → ℕ → A) (P′ : ℕ → A) (m′ n : ℕ)
       → Windowed o In d x P m n → Windowed o In d′ x′ P′ m′ n
-      → walk o d x m d′ x′ m′ n ≡ sum o (λ i. timesZ o (rowSum 2 (d i) n) (P i)) m ⊕ sum o (λ i. timesZ o (rowSum 2 (d′ i) n) (P′ i)) m′
+      → walk o d x m d′ x′ m′ n ≡ sumBelow o (λ i. timesZ o (rowSum 2 (d i) n) (P i)) m ⊕ sumBelow o (λ i. timesZ o (rowSum 2 (d′ i) n) (P′ i)) m′
   walk-digits d x P m d′ x′ P′ m′ n h h′ =
       walk-entries d x m d′ x′ m′ n (named d x P m n h) (named d′ x′ P′ m′ n h′) ∙ ap₂ _⊕_ (row-digits d x P m n h) (row-digits d′ x′ P′ m′ n h′)
 
@@ -111,18 +111,18 @@ module _ {A : Type 0} {o : Ops A} {In : A → Type 0} (l : Laws o In) where
   pub walk-sum : (d : ℕ → ℕ → ℤ) (x : ℕ → ℕ → A) (P : ℕ → A) (s : ℕ → ℕ) (m : ℕ) (d′ : ℕ → ℕ → ℤ) (x′ : ℕ → ℕ → A) (P′ : ℕ → A) (s′ : ℕ → ℕ) (m′ n : ℕ)
       → Windowed o In d x P m n → ((i : ℕ) → i < m → rowSum 2 (d i) n ≡ pos (s i))
       → Windowed o In d′ x′ P′ m′ n → ((i : ℕ) → i < m′ → rowSum 2 (d′ i) n ≡ pos (s′ i))
-      → walk o d x m d′ x′ m′ n ≡ sum o (λ i. times o (s i) (P i)) m ⊕ sum o (λ i. times o (s′ i) (P′ i)) m′
+      → walk o d x m d′ x′ m′ n ≡ sumBelow o (λ i. times o (s i) (P i)) m ⊕ sumBelow o (λ i. times o (s′ i) (P′ i)) m′
   walk-sum d x P s m d′ x′ P′ s′ m′ n h r h′ r′ =
       walk-digits d x P m d′ x′ P′ m′ n h h′ ∙ ap₂ _⊕_ (scalars-sum o 2 d P s m n r) (scalars-sum o 2 d′ P′ s′ m′ n r′)
 
   -- rows of one kind only
   module _ (d : ℕ → ℕ → ℤ) (x : ℕ → ℕ → A) (m : ℕ) (d′ : ℕ → ℕ → ℤ) (x′ : ℕ → ℕ → A) (n : ℕ) where
-    pub walk-entries-one : Named In d x m n → walk o d x m d′ x′ 0 n ≡ sum o (λ i. sum o (λ j. times o (2 ^ j) (term o d x i j)) n) m
+    pub walk-entries-one : Named In d x m n → walk o d x m d′ x′ 0 n ≡ sumBelow o (λ i. sumBelow o (λ j. times o (2 ^ j) (term o d x i j)) n) m
     walk-entries-one h =
         walk-entries d x m d′ x′ 0 n h (λ i j p q. absurd (not-suc-le-zero p))
-        ∙ ap (λ y. sum o (λ i. sum o (λ j. times o (2 ^ j) (term o d x i j)) n) m ⊕ y) (sum-none o (λ i. sum o (λ j. times o (2 ^ j) (term o d′ x′ i j)) n))
+        ∙ ap (λ y. sumBelow o (λ i. sumBelow o (λ j. times o (2 ^ j) (term o d x i j)) n) m ⊕ y) (sum-none o (λ i. sumBelow o (λ j. times o (2 ^ j) (term o d′ x′ i j)) n))
         ∙ idr l (sum-in l m (λ i p. sum-in l n (λ j q. times-in l (2 ^ j) (moved-in (d i j) e-in (h i j p q)))))
 
     pub walk-sum-one : (P : ℕ → A) (s : ℕ → ℕ) → Windowed o In d x P m n → ((i : ℕ) → i < m → rowSum 2 (d i) n ≡ pos (s i))
-        → walk o d x m d′ x′ 0 n ≡ sum o (λ i. times o (s i) (P i)) m
+        → walk o d x m d′ x′ 0 n ≡ sumBelow o (λ i. times o (s i) (P i)) m
     walk-sum-one P s h r = walk-entries-one (named d x P m n h) ∙ row-digits d x P m n h ∙ scalars-sum o 2 d P s m n r

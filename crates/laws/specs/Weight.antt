@@ -1,8 +1,8 @@
 -- Weight: the digits that are not 0, row by row and place by place; plain sums of numbers.
 use mathlib.Core.Path.{_≡_, refl, sym, _∙_, ap, ap₂}
 use mathlib.Core.Logic.{_⊎_, inl, inr}
-use Prim.Native.Nat.{ℕ, zero, suc, _+_, _*_, _<_, _≤_}
-use native.Mathlib.Nat.{le-step, lt-suc-self, eq-or-lt-of-le, le-of-suc-le-suc, suc-mul, mul-one}
+use Prim.Native.Nat.{ℕ, zero, suc, _+_, _-_, _*_, _<_, _≤_}
+use native.Mathlib.Nat.{le-step, lt-suc-self, eq-or-lt-of-le, le-of-suc-le-suc, suc-mul, mul-one, sub-add-cancel}
 use native.Mathlib.Numerals.{add-one}
 use native.Mathlib.Omega.{arith}
 use lib.IntN.{ℤ, pos, negsuc}
@@ -41,6 +41,18 @@ total-le f k (suc n) h = rw (suc-mul n k) (omega (arith, total-le f k n (λ i p.
 pub nonzero-zero : nonzero (pos 0) ≡ 0
 unfolding nonzero
 nonzero-zero = refl
+
+pub nonzero-not : (d : ℤ) → (d ≡ pos 0 → ⊥) → nonzero d ≡ 1
+unfolding nonzero
+nonzero-not (pos zero) h = absurd (h refl)
+nonzero-not (pos (suc n)) h = refl
+nonzero-not (negsuc n) h = refl
+
+pub nonzero-none : (d : ℤ) → nonzero d ≡ 0 → d ≡ pos 0
+unfolding nonzero
+nonzero-none (pos zero) h = refl
+nonzero-none (pos (suc n)) h = absurd (omega arith)
+nonzero-none (negsuc n) h = absurd (omega arith)
 
 nonzero-le : (d : ℤ) → nonzero d ≤ 1
 unfolding nonzero
@@ -81,6 +93,29 @@ module _ (d : ℕ → ℕ → ℤ) where
           let z : total (λ i. nonzero (d i n)) m ≡ 0 = total-zero (λ i. nonzero (d i n)) m (λ i p. ap nonzero (h i n p le' (lt-suc-self n)) ∙ nonzero-zero) in
           let s : weight d m (suc n) ≡ weight d m n + total (λ i. nonzero (d i n)) m = ap (weight d m) (sym (add-one n)) ∙ weight-place m n in
           omega (arith, again le')
+
+-- how many of m rows have a digit at place j that is not 0
+unfoldable pub columnWeight : (ℕ → ℕ → ℤ) → ℕ → ℕ → ℕ
+columnWeight d m j = total (λ i. nonzero (d i j)) m
+
+module _ (d : ℕ → ℕ → ℤ) where
+  pub column-empty : (j : ℕ) → columnWeight d 0 j ≡ 0
+  unfolding columnWeight
+  column-empty j = total-none (λ i. nonzero (d i j))
+
+  -- one row more
+  pub column-row : (m j : ℕ) → columnWeight d (m + 1) j ≡ columnWeight d m j + nonzero (d m j)
+  unfolding columnWeight
+  column-row m j = total-more (λ i. nonzero (d i j)) m
+
+  pub column-le : (m j : ℕ) → columnWeight d m j ≤ m
+  unfolding columnWeight
+  column-le m j = rw mul-one at (total-le (λ i. nonzero (d i j)) 1 m (λ i p. nonzero-le (d i j)))
+
+  -- one place, off the weight of the places up to it
+  pub weight-off : (m j : ℕ) → 0 < j → weight d m j ≡ weight d m (j - 1) + columnWeight d m (j - 1)
+  unfolding columnWeight
+  weight-off m j h = ap (weight d m) (sym (sub-add-cancel h)) ∙ weight-place d m (j - 1)
 
 pub weight-ext : (d d₁ : ℕ → ℕ → ℤ) (m n : ℕ) → ((i j : ℕ) → i < m → j < n → d i j ≡ d₁ i j) → weight d m n ≡ weight d₁ m n
 unfolding weight

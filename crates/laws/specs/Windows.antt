@@ -8,7 +8,7 @@ use lib.IntN.{ℤ, pos, negsuc, natAbs}
 use Rattle.rules.specs.Group.{Ops, times, timesZ}
 use Rattle.rules.specs.Loops.{oddEntry}
 use Rattle.rules.specs.Windows.{stepped, successive, odd, selected, selectedOdd}
-use Rattle.laws.specs.Group.{Laws}
+use Rattle.laws.specs.Group.{Laws, twice-in}
 use Rattle.laws.specs.Multiples.{times-one, times-two, times-add}
 
 module _ {A : Type 0} (o : Ops A) where
@@ -40,7 +40,7 @@ odd-entry d h = back (natAbs d) h
 
 module _ {A : Type 0} {o : Ops A} {In : A → Type 0} (l : Laws o In) where
   open Ops o using (op as _⊕_)
-  open Laws l using (op-in)
+  open Laws l using (op-in, twice-is)
 
   infixl 6 _⊕_
   pub stepped-in : {s p : A} (k : ℕ) → In s → In p → In (stepped o s p k)
@@ -67,7 +67,7 @@ module _ {A : Type 0} {o : Ops A} {In : A → Type 0} (l : Laws o In) where
 
   pub odd-is : (k : ℕ) {p : A} → In p → odd o p k ≡ times o (2 * k + 1) p
   unfolding odd
-  odd-is k {p} h = ap (λ x. stepped o x p k) (sym (times-two l h)) ∙ stepped-is 2 k h
+  odd-is k {p} h = ap (λ x. stepped o x p k) (twice-is h ∙ sym (times-two l h)) ∙ stepped-is 2 k h
 
   pub successive-in : (k : ℕ) {p : A} → In p → In (successive o p k)
   unfolding successive
@@ -75,7 +75,7 @@ module _ {A : Type 0} {o : Ops A} {In : A → Type 0} (l : Laws o In) where
 
   pub odd-in : (k : ℕ) {p : A} → In p → In (odd o p k)
   unfolding odd
-  odd-in k h = stepped-in k (op-in h h) h
+  odd-in k h = stepped-in k (twice-in l h) h
 
   -- lookup in a built window
   pub selected-is : (d : ℤ) {p : A} → In p → selected o (successive o p) d ≡ timesZ o d p

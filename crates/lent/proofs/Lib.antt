@@ -1,4 +1,3 @@
 pub mod TopByte
 pub mod Passed
 mod Points
-mod WildDigits

@@ -10,7 +10,7 @@ use lib.Dec.{ltb}
 use Rattle.rules.specs.Values.{part, scalarAt, Below}
 use Rattle.rules.specs.Numbers.{scalarBound}
 use Rattle.rules.specs.Lists.{bigAt}
-use Rattle.laws.specs.Numerals.{top-test}
+use Rattle.laws.proofs.Numerals.{top-test}
 
 -- the tie of the scalars' bound to the byte that the code tests
 bound-is : scalarBound ≡ 128 * 2 ^ 248

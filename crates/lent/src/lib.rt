@@ -1,9 +1,13 @@
 // What every call asks of lent lists, each condition after its sentence in document 01's table of numbers.
 ghost use mathlib.Core.Path.{_≡_};
 ghost use Prim.Native.Nat.{min};
+ghost use mathlib.Core.List.{[], _∷_};
+ghost use Rattle.rules.specs.Lent.{was};
 ghost use Rattle.rules.specs.Values.{optionalAt};
+ghost use Rattle.rules.specs.Numbers.{absentPoint, first};
 ghost use Rattle.rules.specs.Windows.{anyOver};
-ghost use Rattle.rules.specs.Lists.{notIn, beyondMost, listsNotWhole, listsTooMany, anyBig, anyFlag, pointOver, anyPoint, badLists, absentBelow, wildDigit, anyWild};
+ghost use Rattle.rules.specs.Lists.{notIn, beyondMost, pairs, anyBig, pointOver, badLists, absentBelow};
+ghost use Rattle.rules.specs.Asks.{plainLists, flaggedLists, enoughRoom, plainContents, flaggedContents};
 use rules::OptionalPoint;
 
 // 2: the most scalars, points or slots.
@@ -42,32 +46,49 @@ pub fn smaller(a: usize, b: usize) -> usize
     if a < b { a } else { b }
 }
 
-// 1: whether scalars are not in 32s, points not in 4s, or flags not one per point.
-pub fn lists_not_whole(scalars: &[u8], points: &[u64], flags: &[u8]) -> bool
-    ensures { λ r. ⌜ r ≡ listsNotWhole (now (scalars .entry)) (now (points .entry)) (now (flags .entry)) ⌝ }
+// m, the smaller of the two counts.
+pub fn pairs(scalars: &[u8], points: &[u64]) -> usize
+    ensures { λ r. ⌜ r ≡ pairs (was scalars) (was points) ⌝ }
 {
-    if not_whole(scalars.len(), 32) {
-        return true;
-    }
-    if not_whole(points.len(), 4) {
-        return true;
-    }
-    flags.len() != points.len() / 4
+    smaller(scalars.len() / 32, points.len() / 4)
 }
 
-// 2: whether there are over 1,024 scalars or points.
-pub fn lists_too_many(scalars: &[u8], points: &[u64]) -> bool
-    ensures { λ r. ⌜ r ≡ listsTooMany (now (scalars .entry)) (now (points .entry)) ⌝ }
+// 1 and 2 of scalars and of points without flags.
+pub fn plain_lists(scalars: &[u8], points: &[u64]) -> u8
+    ensures { λ r. ⌜ r ≡ first (plainLists (was scalars) (was points)) ⌝ }
 {
-    if too_many(scalars.len(), 32, MOST) {
-        return true;
+    if not_whole(scalars.len(), 32) | not_whole(points.len(), 4) {
+        return 1;
     }
-    too_many(points.len(), 4, MOST)
+    if too_many(scalars.len(), 32, MOST) | too_many(points.len(), 4, MOST) {
+        return 2;
+    }
+    0
+}
+
+// 1 and 2 of scalars, points and flags.
+pub fn lists(scalars: &[u8], points: &[u64], flags: &[u8]) -> u8
+    ensures { λ r. ⌜ r ≡ first (flaggedLists (was scalars) (was points) (was flags)) ⌝ }
+{
+    if flags.len() != points.len() / 4 {
+        return 1;
+    }
+    plain_lists(scalars, points)
+}
+
+// 5 of working room: so many digits and limbs are needed, so many are lent.
+pub fn room(needed_digits: usize, digits: usize, needed_limbs: usize, limbs: usize) -> u8
+    ensures { λ r. ⌜ r ≡ first (enoughRoom «needed_digits» digits «needed_limbs» limbs) ⌝ }
+{
+    if (digits < needed_digits) | (limbs < needed_limbs) {
+        return 5;
+    }
+    0
 }
 
 // 6: whether a scalar is at or above 2^255.
 pub fn any_big(scalars: &[u8]) -> bool
-    ensures { λ r. ⌜ r ≡ anyBig (now (scalars .entry)) ⌝ }
+    ensures { λ r. ⌜ r ≡ anyBig (was scalars) ⌝ }
 {
     let n = scalars.len() / 32;
     let mut i: usize = 0;
@@ -80,23 +101,9 @@ pub fn any_big(scalars: &[u8]) -> bool
     false
 }
 
-// 7: whether a presence flag is other than 0 and 1.
-pub fn any_flag(flags: &[u8]) -> bool
-    ensures { λ r. ⌜ r ≡ anyFlag (now (flags .entry)) ⌝ }
-{
-    let mut i: usize = 0;
-    while i < flags.len() {
-        if 1 < flags[i] {
-            return true;
-        }
-        i += 1;
-    }
-    false
-}
-
 // Point i by its flag: absent where that is 0, and past the flags' end.
-pub fn optional_at(points: &[u64], flags: &[u8], i: usize) -> OptionalPoint
-    ensures { λ r. ⌜ r ≡ optionalAt (now (points .entry)) (now (flags .entry)) i ⌝ }
+fn optional_at(points: &[u64], flags: &[u8], i: usize) -> OptionalPoint
+    ensures { λ r. ⌜ r ≡ optionalAt (was points) (was flags) i ⌝ }
 {
     if flags.len() <= i {
         return OptionalPoint::Absent;
@@ -104,11 +111,11 @@ pub fn optional_at(points: &[u64], flags: &[u8], i: usize) -> OptionalPoint
     if flags[i] == 0 {
         return OptionalPoint::Absent;
     }
-    OptionalPoint::Present(residue::element_at(points, i))
+    OptionalPoint::Present(limbs::element_at(points, i))
 }
 
 // 7: whether a point is present and at or above L.
-pub fn point_over(point: OptionalPoint) -> bool
+fn point_over(point: OptionalPoint) -> bool
     ensures { λ r. ⌜ r ≡ pointOver point ⌝ }
 {
     match point {
@@ -117,39 +124,30 @@ pub fn point_over(point: OptionalPoint) -> bool
     }
 }
 
-// 7: whether any point is so; the limbs of an absent one are not looked at.
-pub fn any_point(points: &[u64], flags: &[u8]) -> bool
-    ensures { λ r. ⌜ r ≡ anyPoint (now (points .entry)) (now (flags .entry)) ⌝ }
+// 7: whether a flag is other than 0 and 1, or a point is so; the limbs of an absent one are not looked at.
+fn bad_lists(points: &[u64], flags: &[u8]) -> bool
+    ensures { λ r. ⌜ r ≡ badLists (was points) (was flags) ⌝ }
 {
     let n = points.len() / 4;
     let mut i: usize = 0;
-    while i < n {
-        if point_over(optional_at(points, flags, i)) {
+    while i < flags.len() {
+        let over = point_over(optional_at(points, flags, i));
+        if (1 < flags[i]) | ((i < n) & over) {
             return true;
         }
         i += 1;
     }
     false
-}
-
-// 7: whether a flag or a present point is bad.
-pub fn bad_lists(points: &[u64], flags: &[u8]) -> bool
-    ensures { λ r. ⌜ r ≡ badLists (now (points .entry)) (now (flags .entry)) ⌝ }
-{
-    if any_flag(flags) {
-        return true;
-    }
-    any_point(points, flags)
 }
 
 // 7 or 10: whether an element of flat limbs is at or above L.
 pub fn any_over(limbs: &[u64]) -> bool
-    ensures { λ r. ⌜ r ≡ anyOver (now (limbs .entry)) ⌝ }
+    ensures { λ r. ⌜ r ≡ anyOver (was limbs) ⌝ }
 {
     let n = limbs.len() / 4;
     let mut i: usize = 0;
     while i < n {
-        if residue::over(residue::element_at(limbs, i)) {
+        if residue::over(limbs::element_at(limbs, i)) {
             return true;
         }
         i += 1;
@@ -157,44 +155,42 @@ pub fn any_over(limbs: &[u64]) -> bool
     false
 }
 
-// 8: whether a point below index n is absent.
-pub fn absent_below(points: &[u64], flags: &[u8], n: usize) -> bool
-    ensures { λ r. ⌜ r ≡ absentBelow (now (points .entry)) (now (flags .entry)) n ⌝ }
+// 8: each of the first n points is taken apart.
+fn present(points: &[u64], flags: &[u8], n: usize) -> u8
+    ensures { λ r. ⌜ r ≡ first ((absentBelow (was points) (was flags) n, absentPoint) ∷ []) ⌝ }
 {
     let mut i: usize = 0;
     while i < n {
         let OptionalPoint::Present(_) = optional_at(points, flags, i) else {
-            return true;
+            return 8;
         };
         i += 1;
     }
-    false
+    0
 }
 
-// Whether a digit is neither 0 nor odd within -15 to 15.
-pub fn wild(d: i8) -> bool
-    ensures { λ r. ⌜ r ≡ wildDigit d ⌝ }
+// 6 and 7 of scalars and of points without flags.
+pub fn plain_contents(scalars: &[u8], points: &[u64]) -> u8
+    ensures { λ r. ⌜ r ≡ first (plainContents (was scalars) (was points)) ⌝ }
 {
-    let m = digit::magnitude(d);
-    if m == 0 {
-        return false;
+    if any_big(scalars) {
+        return 6;
     }
-    if m % 2 == 0 {
-        return true;
+    if any_over(points) {
+        return 7;
     }
-    15 < m
+    0
 }
 
-// 10: whether a prepared digit is so.
-pub fn any_wild(digits: &[i8]) -> bool
-    ensures { λ r. ⌜ r ≡ anyWild (now (digits .entry)) ⌝ }
+// 6, 7 and 8 of scalars, points and flags, where the first n points are needed.
+pub fn contents(scalars: &[u8], points: &[u64], flags: &[u8], n: usize) -> u8
+    ensures { λ r. ⌜ r ≡ first (flaggedContents (was scalars) (was points) (was flags) n) ⌝ }
 {
-    let mut i: usize = 0;
-    while i < digits.len() {
-        if wild(digits[i]) {
-            return true;
-        }
-        i += 1;
+    if any_big(scalars) {
+        return 6;
     }
-    false
+    if bad_lists(points, flags) {
+        return 7;
+    }
+    present(points, flags, n)
 }

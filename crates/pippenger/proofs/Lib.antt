@@ -1,8 +1,4 @@
-mod Putting
-mod Running
-mod Buckets
-mod Walking
+mod Stored
 mod Refusing
-mod Filling
 mod Summing
 mod Answering

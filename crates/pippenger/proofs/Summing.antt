@@ -1,32 +1,30 @@
 -- The walk is the sum of scalar times point, and takes what the rule says: from four limbs to residues, from digits to scalars.
-use mathlib.Core.Path.{_≡_, refl, sym, ap, _∙_}
+use mathlib.Core.Path.{_≡_, sym, ap, _∙_}
 use mathlib.Core.List.{List}
 use Prim.Native.Nat.{ℕ, zero, suc, _+_, _-_, _*_, _%_, _^_, _<_, _≤_}
 use native.Mathlib.Omega.{arith}
 use lib.IntN.{ℤ, pos, natAbs}
 use lib.ListN.{length}
-use Rattle.rules.specs.declared.Element.{Element}
+use Rattle.rules.specs.declared.Row.the-variants.{Radix}
 use Rattle.rules.specs.Values.{valueOf, elementOf, part, elementAt, pointAt, scalarAt}
-use Rattle.rules.specs.Group.{L, residues, elements, sum, times, timesZ}
-use Rattle.rules.specs.Loops.{down, doubled, weight}
+use Rattle.rules.specs.Group.{L, elements}
+use Rattle.rules.specs.Loops.{down, weight}
 use Rattle.rules.specs.Rows.{digit, rowSum, usedPlaces, radixRow}
 use Rattle.rules.specs.Engines.{products, rowsDigit, bucketLimbs}
+use Rattle.rules.specs.Helpers.{laid, laidRows}
 use Rattle.laws.specs.Residues.{modulo-sum}
-use Rattle.laws.specs.Loops.{down-carry}
 use Rattle.laws.specs.Weight.{weight-ext, weight-top}
-use Rattle.laws.specs.Places.{rowSum-top, radix-from}
-use Rattle.laws.specs.Buckets.{filled, bucketSum-ext, buckets-sum}
-use Rattle.laws.specs.Carried.{doubled-carry, filled-carry, bucketSum-carry}
-use Rattle.laws.specs.RadixRows.{scalar-has-row, radix-rest, radix-small}
-use Rattle.laws.specs.RowsRule.{radix-obeys}
-use Rattle.laws.specs.Laid.{laid, laid-part, laid-length}
+use Rattle.laws.specs.Places.{rowSum-top}
+use Rattle.laws.specs.RadixRows.{scalar-has-row, radix-length, radix-rest, radix-small}
+use Rattle.laws.specs.RowsRule.{radix-sum}
+use Rattle.laws.proofs.Laid.{laid-part, laid-length}
+use Rattle.laws.specs.Cells.{digitAt}
+use Rattle.laws.specs.BucketWalk.{wide, turnIn, walkIn, walkAdditions, Walkable, bucket-walk}
 use Rattle.limbs.proofs.Elements.{whole, Ranged}
-use Rattle.residue.proofs.Members.{Member, added-ranged}
+use Rattle.residue.proofs.Members.{added-ranged}
 use Rattle.residue.proofs.Laws.{group, carries}
-use Rattle.pippenger.specs.Flat.{digitAt, columnOf, turn, walkOf, walkAdditions, Walkable}
-use Rattle.pippenger.proofs.Walking.{wide}
+use Rattle.laying.proofs.Built.{radix-laid}
 use Rattle.pippenger.proofs.Refusing.{Ready}
-use Rattle.pippenger.proofs.Filling.{rowOf, row-long}
 
 -- what every turn makes true holds at the end
 ends : {A : Type 0} (P : A → Type 0) (f : ℕ → A → A) → ((j : ℕ) (q : A) → P (f j q)) → (n : ℕ) (q : A) → 0 < n → P (down f n q)
@@ -35,57 +33,23 @@ ends P f h zero q s = absurd (omega arith)
 ends P f h (suc zero) q s = h 0 q
 ends P f h (suc (suc n)) q s = ends P f h (suc n) (f (suc n) q) (omega arith)
 
--- digits that have their buckets, in rows that say scalars
-module _ (ds : List ℤ) (ps : List ℕ) (s : ℕ → ℕ) (m w : ℕ) (lo : 6 ≤ w) (hi : w ≤ 8) (point-in : (i : ℕ) → i < m → Member (elementAt ps i))
-    (small : (i j : ℕ) → i < m → natAbs (digitAt ds i j) ≤ 2 ^ (w - 1)) (row : (i : ℕ) → i < m → rowSum (2 ^ w) (digitAt ds i) (usedPlaces w) ≡ pos (s i)) where
-  abbrev P : ℕ → ℕ
-  P i = valueOf (elementAt ps i)
-
-  abbrev C : ℕ → Element
-  C j = columnOf ds ps m (2 ^ (w - 1)) j
-
-  bucket-in : (j k : ℕ) → Member (filled elements (λ i. digitAt ds i j) (elementAt ps) m k)
-      × (valueOf (filled elements (λ i. digitAt ds i j) (elementAt ps) m k) ≡ filled residues (λ i. digitAt ds i j) P m k)
-  bucket-in j k = filled-carry carries (λ i. digitAt ds i j) (elementAt ps) m k point-in
-
-  column-in : (j : ℕ) → Member (C j) × (valueOf (C j) ≡ sum residues (λ i. timesZ residues (digitAt ds i j) (P i)) m)
-  unfolding columnOf
-  column-in j =
-      let d : ℕ → ℤ = λ i. digitAt ds i j in
-      let n : ℕ = 2 ^ (w - 1) - 1 in
-      let b = bucketSum-carry carries (filled elements d (elementAt ps) m) n (λ k p. bucket-in j k .0) in (
-        b .0,
-        b .1
-            ∙ bucketSum-ext residues (λ k. valueOf (filled elements d (elementAt ps) m k)) (filled residues d P m) n (λ k p. bucket-in j k .1)
-            ∙ buckets-sum group d P m n (λ i p. omega (arith, small i j p, wide w lo hi .bucket)) point-in,
-      )
-
-  step : ℕ → ℕ → ℕ
-  step j q = residues .op (doubled residues w q) (valueOf (C j))
-
-  walk-value : valueOf (walkOf ds ps m w) ≡ sum residues (λ i. times residues (s i) (P i)) m
-  unfolding walkOf turn step
-  walk-value =
-      let c : usedPlaces w - 1 + 1 ≡ usedPlaces w = omega (arith, wide w lo hi .some) in
-      down-carry Member valueOf (turn ds ps m w) step (usedPlaces w - 1)
-      (λ j p q hq.
-      let a = doubled-carry carries w hq in
-      (carries .op-in (a .0) (column-in j .0), carries .to-op (a .0) (column-in j .0) ∙ ap (λ (x : ℕ). residues .op x (valueOf (C j))) (a .1)))
-      (column-in (usedPlaces w - 1) .0) .1
-      ∙ radix-from group w (digitAt ds) P s m (λ j. valueOf (C j)) step (usedPlaces w - 1) point-in (λ j p r hr. refl) (λ j p. column-in j .1)
-      (λ i p. rw c (row i p))
-
-  walk-ranged : Ranged (walkOf ds ps m w)
-  unfolding walkOf turn
-  walk-ranged = ends Ranged (turn ds ps m w) (λ j q. added-ranged _ _) (usedPlaces w - 1) _ (omega (arith, wide w lo hi .some))
-
-  walk-is : walkOf ds ps m w ≡ elementOf (sum residues (λ i. times residues (s i) (P i)) m)
-  walk-is = sym (whole (walkOf ds ps m w) walk-ranged) ∙ ap elementOf walk-value
+walk-ranged : (ds : List ℤ) (ps : List ℕ) (m w : ℕ) → 6 ≤ w → w ≤ 8 → Ranged (walkIn elements ds (elementAt ps) m w)
+unfolding walkIn turnIn
+walk-ranged ds ps m w lo hi = ends Ranged (turnIn elements ds (elementAt ps) m w) (λ j q. added-ranged _ _) (usedPlaces w - 1) _ (omega (arith, wide w lo hi .some))
 
 -- the rows of the scalars, laid
-module _ {ss ps : List ℕ} {m w d b : ℕ} (h : Ready ss ps m w d b) (d₀ : List ℤ) {ds : List ℤ} (e : ds ≡ laid 64 (rowOf ss w) m d₀) where
-  row-is : (i : ℕ) → i < m → part 64 i ds ≡ rowOf ss w i
-  row-is i p = ap (part 64 i) e ∙ laid-part 64 (rowOf ss w) m d₀ (λ j q. row-long ss w (h .low) (h .high) j) i p
+module _ {ss ps : List ℕ} {m w d b : ℕ} (h : Ready ss ps m w d b) (d₀ : List ℤ) (room : length d₀ ≡ d) {ds : List ℤ} (recoded : ds ≡ laidRows (Radix w) ss m d₀) where
+  abbrev rowOf : ℕ → List ℤ
+  rowOf i = radixRow w (scalarAt ss i)
+
+  pub row-long : (i : ℕ) → i < m → length (rowOf i) ≡ 64
+  row-long i _ = radix-length w (omega (arith, h .low)) (h .high) (scalarAt ss i)
+
+  pub rows : ds ≡ laid 64 rowOf m d₀
+  rows = recoded ∙ radix-laid w (h .high) ss m d₀ (omega (arith, h .scalars)) (omega (arith, h .low)) (omega (arith, h .digits, room))
+
+  row-is : (i : ℕ) → i < m → part 64 i ds ≡ rowOf i
+  row-is i p = ap (part 64 i) rows ∙ laid-part 64 rowOf m d₀ row-long i p
 
   digit-is : (i j : ℕ) → i < m → digitAt ds i j ≡ rowsDigit (radixRow w) ss i j
   unfolding digitAt rowsDigit
@@ -102,31 +66,30 @@ module _ {ss ps : List ℕ} {m w d b : ℕ} (h : Ready ss ps m w d b) (d₀ : Li
   unfolding digitAt
   row-sum i p =
       ap (λ (r : List ℤ). rowSum (2 ^ w) (digit r) (usedPlaces w)) (row-is i p)
-      ∙ sym (rowSum-top (2 ^ w) (digit (rowOf ss w i)) (usedPlaces w) 64 (wide w (h .low) (h .high) .inside) (λ j a q. row-zero (scalarAt ss i) j a))
-      ∙ radix-obeys w (omega (arith, h .low)) (h .high) (scalarAt ss i) .sum-is
+      ∙ sym (rowSum-top (2 ^ w) (digit (rowOf i)) (usedPlaces w) 64 (wide w (h .low) (h .high) .inside) (λ j a q. row-zero (scalarAt ss i) j a))
+      ∙ radix-sum w (omega (arith, h .low)) (h .high) (scalarAt ss i)
 
   -- what the walk asks
-  pub walkable : length d₀ ≡ d → Walkable ds ps m w b
+  pub walkable : Walkable 4 ds m w b
   unfolding bucketLimbs
-  walkable ed = record {
+  walkable = record {
     low = h .low;
     high = h .high;
     room = h .room;
     placed = λ j p. record {
-      few = h .few;
-      rows = omega (arith, h .digits, ed, ap length e, laid-length 64 (rowOf ss w) m d₀ (λ j q. row-long ss w (h .low) (h .high) j) (omega (arith, h .digits)));
-      points = h .points;
+      rows = omega (arith, h .digits, room, ap length rows, laid-length 64 rowOf m d₀ row-long (omega (arith, h .digits, room)));
       place = p;
       small = λ i q. omega (arith, digit-small i j q);
     };
   }
 
   -- its sum and its additions are those of the rule
-  pub sum-is : walkOf ds ps m w ≡ elementOf (products ss ps m % L)
+  pub sum-is : walkIn elements ds (elementAt ps) m w ≡ elementOf (products ss ps m % L)
   unfolding products pointAt
   sum-is =
-      walk-is ds ps (scalarAt ss) m w (h .low) (h .high) (h .members) digit-small row-sum
-      ∙ ap elementOf (modulo-sum L (scalarAt ss) (λ i. valueOf (elementAt ps i)) m)
+      sym (whole (walkIn elements ds (elementAt ps) m w) (walk-ranged ds ps m w (h .low) (h .high)))
+      ∙ ap elementOf (bucket-walk carries group ds (elementAt ps) (scalarAt ss) m w (h .low) (h .high) (h .members) (h .members) digit-small row-sum
+      ∙ modulo-sum L (scalarAt ss) (λ i. valueOf (elementAt ps i)) m)
 
   pub additions-are : (n : ℕ) → walkAdditions ds m (usedPlaces w) n ≡ weight (rowsDigit (radixRow w) ss) m 64 + usedPlaces w * 2 * (n - 1) + (usedPlaces w - 1)
   unfolding walkAdditions

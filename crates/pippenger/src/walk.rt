@@ -2,18 +2,12 @@
 ghost use mathlib.Core.Path.{_≡_};
 ghost use Prim.Native.Nat.{_-_, _^_, _≤_};
 ghost use lib.ListN.{length};
-ghost use Rattle.rules.specs.Rows.{usedPlaces};
-ghost use Rattle.pippenger.specs.Flat.{Walkable, Walked};
+ghost use Rattle.rules.specs.Lent.{was, is};
+ghost use Rattle.rules.specs.Values.{elementAt};
+ghost use Rattle.rules.specs.Group.{elements};
+ghost use Rattle.laws.specs.BucketWalk.{Walkable, Walked};
 use super::column::column;
 use rules::Walk;
-
-// The places that digits of this width use.
-fn digits_count(w: usize) -> usize
-    requires { ⌜ (6 ≤ w) × (w ≤ 8) ⌝ }
-    ensures { λ r. ⌜ r ≡ usedPlaces w ⌝ }
-{
-    256 / w + 1
-}
 
 // The buckets that digits of this width need, one for each absolute value but 0: 128 at w = 8, half as many for each bit less.
 pub(crate) fn buckets_count(w: usize) -> usize
@@ -25,11 +19,11 @@ pub(crate) fn buckets_count(w: usize) -> usize
 
 // The high column as it is, and from the place below it down w doublings and that place's column.
 pub(crate) fn walk(digits: &[i8], points: &[u64], m: usize, w: usize, buckets: &mut [u64]) -> Walk
-    requires { ⌜ Walkable (now digits) (now points) m w (length (now buckets)) ⌝ }
-    ensures { λ r. ⌜ Walked (now (digits .entry)) (now (points .entry)) m w (now (buckets .entry)) (now (buckets .exit)) r ⌝ }
+    requires { ⌜ Walkable 4 (now digits) m w (length (now buckets)) ⌝ }
+    ensures { λ r. ⌜ Walked elements 4 (was digits) (elementAt (was points)) m w (was buckets) (is buckets) (r .element) (r .additions) (r .doublings) ⌝ }
 {
     let n = buckets_count(w);
-    let c = digits_count(w);
+    let c = scalar::to_radix_2w_size_hint(w);
     let hi_column = column(digits, points, m, c - 1, n, &mut *buckets);
     let mut q = hi_column.element;
     let mut additions = hi_column.additions;

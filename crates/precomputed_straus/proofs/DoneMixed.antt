@@ -7,25 +7,22 @@ use native.Mathlib.Omega.{arith}
 use lib.ListN.{length, take, drop, length-append, length-drop}
 use lib.Seq.{length-take-le, drop-at}
 use lib.IntN.{ℤ, pos}
-use lib.Dec.{lit<, eqb, ltb}
+use lib.Dec.{eqb, ltb}
 use borrow.Author.Tests.{eqb-true, ltb-false, not-false}
 use Rattle.rules.specs.declared.Sum.{Sum}
 use Rattle.rules.specs.declared.Walk.{Walk}
-use Rattle.rules.specs.Numbers.{cleared, roomAfter, summed, condition}
+use Rattle.rules.specs.Numbers.{most, cleared, roomAfter, summed, condition}
 use Rattle.rules.specs.Lists.{scalarCount, pointCount, shorter, otherThan, anyBig, anyFlag, anyPoint, badLists}
-use Rattle.rules.specs.Engines.{After, mixedConditions, mixedRefusal, mixed}
+use Rattle.rules.specs.Engines.{after, mixedConditions, mixedRefusal, mixed}
 use Rattle.rules.specs.Helpers.{sumDone}
 use Rattle.laws.specs.RadixRows.{scalar-has-row}
 use Rattle.laws.specs.Conditions.{or-split}
-use Rattle.laws.specs.Answers.{Rising, first-done}
-use Rattle.laws.specs.Room.{cleared-rest, room-refused, room-done}
+use Rattle.laws.specs.Answers.{first-done}
+use Rattle.laws.proofs.Room.{cleared-rest, room-refused, room-done}
 use Rattle.answer.proofs.Answers.{refused-sum, done-sum}
 use Rattle.lent.proofs.Passed.{small, there-under}
 use Rattle.precomputed_straus.specs.Fill.{Ready, mixedWalk}
 use Rattle.precomputed_straus.proofs.Asked.{few-rows}
-
-abbrev after : Sum → List ℤ → List ℕ → After
-after r d l = record { result = r; digits = d; limbs = l }
 
 -- room whose first n places were written to, cleared
 written : {A : Type 0} (z : A) (n : ℕ) (l x : List A) → n ≤ length l → length x ≡ length (take n l) → cleared z n (x ++ drop n l) ≡ cleared z n l
@@ -44,12 +41,9 @@ module _ (ts sss ss ps fs : List ℕ) (ds : List ℤ) (ls : List ℕ) where
   module _ (passed : mixedRefusal ts sss ss ps fs (length ds) (length ls) ≡ 0) where
     told : (i : ℕ) → condition (mixedConditions ts sss ss ps fs (length ds) (length ls)) i ≡ false
     unfolding mixedRefusal
-    told = first-done (mixedConditions ts sss ss ps fs (length ds) (length ls)) rising .0 passed
-      where
-        rising : Rising 0 (mixedConditions ts sss ss ps fs (length ds) (length ls))
-        rising = (lit< tt, (lit< tt, (lit< tt, (lit< tt, (lit< tt, (lit< tt, (lit< tt, (lit< tt, tt))))))))
+    told = first-done (mixedConditions ts sss ss ps fs (length ds) (length ls)) (omega arith) .0 passed
 
-    few : (scalarCount sss ≤ 1024) × (scalarCount ss ≤ 1024)
+    few : (scalarCount sss ≤ most) × (scalarCount ss ≤ most)
     unfolding condition
     few = few-rows ts sss ss ps (told 2)
 
@@ -61,11 +55,11 @@ module _ (ts sss ss ps fs : List ℕ) (ds : List ℤ) (ls : List ℕ) where
 
     pub small-static : anyBig sss ≡ false
     unfolding condition
-    small-static = or-split (anyBig sss) (anyBig ss) (told 6) .0
+    small-static = or-split (anyBig ss) (anyBig sss) (told 6) .1
 
     small-dynamic : anyBig ss ≡ false
     unfolding condition
-    small-dynamic = or-split (anyBig sss) (anyBig ss) (told 6) .1
+    small-dynamic = or-split (anyBig ss) (anyBig sss) (told 6) .0
 
     points-under : anyPoint ps fs ≡ false
     unfolding condition badLists

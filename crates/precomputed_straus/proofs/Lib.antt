@@ -1,5 +1,4 @@
 mod Asked
-mod Filling
 mod DoneTables
 mod MixedRows
 mod DoneMixed

@@ -1,25 +1,27 @@
 // Precomputed Straus: static tables of width 8, dynamic rows and windows of width 5.
 ghost use mathlib.Core.Path.{_≡_};
 ghost use lib.ListN.{length};
-ghost use Rattle.rules.specs.Engines.{After, AfterNew, newTables, mixed};
+ghost use Rattle.rules.specs.Lent.{was, is};
+ghost use Rattle.rules.specs.Engines.{after, afterNew, newTables, mixed};
 ghost use Rattle.precomputed_straus.specs.Fill.{Ready, mixedWalk};
 use rules::Counted;
+use rules::Row;
 use rules::Sum;
 use rules::Walk;
+use rules::Window;
 
 pub(crate) mod asks;
-pub(crate) mod fill;
 
 // The static tables of points without flags.
 pub fn new(points: &[u64], tables: &mut [u64]) -> Counted
-    ensures { λ r. ⌜ _≡_ {A = AfterNew} (record { result = r; tables = now (tables .exit) }) (newTables (now (points .entry)) (now (tables .entry))) ⌝ }
+    ensures { λ r. ⌜ afterNew r (is tables) ≡ newTables (was points) (was tables) ⌝ }
 {
     let number = crate::asks::new_refusal(points, tables.len());
     if number != 0 {
         return answer::refused_counted(number);
     }
-    let made = crate::fill::tables(points, &mut *tables);
-    answer::counted(made)
+    let n = points.len() / 4;
+    answer::counted(laying::windows(points, n, Window::Odd64, &mut *tables))
 }
 
 // The walk over dynamic pairs and static rows, which are laid into room of just their length.
@@ -32,11 +34,14 @@ fn walk(
     limbs: &mut [u64],
 ) -> Walk
     requires { ⌜ Ready (now tables) (now «static_scalars») (now scalars) (now points) (length (now digits)) (length (now limbs)) ⌝ }
-    ensures { λ r. ⌜ r ≡ mixedWalk (now (tables .entry)) (now («static_scalars» .entry)) (now (scalars .entry)) (now (points .entry)) ⌝ }
+    ensures { λ r. ⌜ r ≡ mixedWalk (was tables) (was «static_scalars») (was scalars) (was points) ⌝ }
 {
-    let d = 256 * (scalars.len() / 32);
-    let made = columns::fill(scalars, points, &mut digits[..d], &mut *limbs);
-    crate::fill::rows(static_scalars, &mut digits[d..]);
+    let p = scalars.len() / 32;
+    let q = static_scalars.len() / 32;
+    let d = 256 * p;
+    laying::rows(scalars, p, Row::Naf(5), &mut *digits);
+    laying::rows(static_scalars, q, Row::Naf(8), &mut digits[d..]);
+    let made = laying::windows(points, p, Window::Odd8, &mut *limbs);
     let rows = &digits[..];
     let w = columns::walk(&rows[..d], &limbs[..], &rows[d..], tables, 256);
     let element = w.element;
@@ -57,7 +62,7 @@ pub fn optional_mixed_multiscalar_mul(
     digits: &mut [i8],
     limbs: &mut [u64],
 ) -> Sum
-    ensures { λ r. ⌜ _≡_ {A = After} (record { result = r; digits = now (digits .exit); limbs = now (limbs .exit) }) (mixed (now (tables .entry)) (now («static_scalars» .entry)) (now («dynamic_scalars» .entry)) (now («dynamic_points» .entry)) (now («dynamic_flags» .entry)) (now (digits .entry)) (now (limbs .entry))) ⌝ }
+    ensures { λ r. ⌜ after r (is digits) (is limbs) ≡ mixed (was tables) (was «static_scalars») (was «dynamic_scalars») (was «dynamic_points») (was «dynamic_flags») (was digits) (was limbs) ⌝ }
 {
     let number = crate::asks::mixed_refusal(
         tables,

@@ -1,165 +1,123 @@
-// The lists that several calls have in common, read one after the other.
+// The arguments of a case, read one after the other: lists into their memory, everything else as numbers.
 use crate::input;
 use crate::input::State;
+use crate::list;
+use crate::parts;
 
-// How many elements each list has, in the lists' order, and what follows.
-pub(crate) struct Lengths {
-    pub a: usize,
-    pub b: usize,
-    pub c: usize,
+// The numbers of a case by the kinds of its arguments, a list's being its length, and what follows.
+pub(crate) struct Handed {
+    pub numbers: [u64; 16],
     pub next: State,
 }
 
-// Two lists of limbs.
-pub(crate) fn elements(
+// The kinds of a call's arguments, four bits each, the first lowest: 1 to 3 bytes, 4 and 5 limbs, 6 and 7 digits and limbs that it may write, 8 a number, 9 a digit, 10 a point's flag, 11 to 14 its limbs. An unknown code has none.
+pub(crate) fn kinds(code: u64) -> u64 {
+    let table: [u64; 27] = [
+        0,
+        0x54,
+        0x54,
+        0x4,
+        0x4,
+        0x81,
+        0x1,
+        0x81,
+        0x86,
+        0x86,
+        0x4,
+        0x4,
+        0x4,
+        0x94,
+        0x94,
+        0x94,
+        0x14,
+        0x241,
+        0x7641,
+        0x76241,
+        0x74,
+        0x7635214,
+        0x76241,
+        0x76241,
+        0xedcba1876,
+        0x876,
+        0x76,
+    ];
+    if code < 27 {
+        return table[code as usize];
+    }
+    0
+}
+
+// A list into its part of memory; its length is in hand.
+fn one_list(
+    kind: u64,
     input: &mut [u8],
-    first: &mut [u64],
-    second: &mut [u64],
-    s: State,
-) -> Lengths {
-    let s = input::limbs(input, first, s);
-    let a = s.number as usize;
-    let s = input::limbs(input, second, s);
-    let b = s.number as usize;
-    Lengths {
-        a: a,
-        b: b,
-        c: 0,
-        next: s,
-    }
-}
-
-// Limbs and bytes: a point and a scalar, or static tables and their scalars.
-pub(crate) fn statics(input: &mut [u8], limbs: &mut [u64], bytes: &mut [u8], s: State) -> Lengths {
-    let s = input::limbs(input, limbs, s);
-    let a = s.number as usize;
-    let s = input::bytes(input, bytes, s);
-    let b = s.number as usize;
-    Lengths {
-        a: a,
-        b: b,
-        c: 0,
-        next: s,
-    }
-}
-
-// Bytes and limbs: scalars and points.
-pub(crate) fn plain(input: &mut [u8], scalars: &mut [u8], points: &mut [u64], s: State) -> Lengths {
-    let s = input::bytes(input, scalars, s);
-    let a = s.number as usize;
-    let s = input::limbs(input, points, s);
-    let b = s.number as usize;
-    Lengths {
-        a: a,
-        b: b,
-        c: 0,
-        next: s,
-    }
-}
-
-// Bytes, limbs and bytes: scalars, points and flags, or a scalar on either side of a point.
-pub(crate) fn pairs(
-    input: &mut [u8],
-    scalars: &mut [u8],
-    points: &mut [u64],
-    flags: &mut [u8],
-    s: State,
-) -> Lengths {
-    let n = plain(input, scalars, points, s);
-    let s = input::bytes(input, flags, n.next);
-    let c = s.number as usize;
-    Lengths {
-        a: n.a,
-        b: n.b,
-        c: c,
-        next: s,
-    }
-}
-
-// Digits and limbs: working room, or a prepared batch.
-pub(crate) fn room(input: &mut [u8], digits: &mut [i8], limbs: &mut [u64], s: State) -> Lengths {
-    let s = input::digits(input, digits, s);
-    let a = s.number as usize;
-    let s = input::limbs(input, limbs, s);
-    let b = s.number as usize;
-    Lengths {
-        a: a,
-        b: b,
-        c: 0,
-        next: s,
-    }
-}
-
-// The lengths of pairs, and those of the room behind them.
-pub(crate) struct Both {
-    pub pairs: Lengths,
-    pub room: Lengths,
-}
-
-// Scalars and points, and then the room.
-pub(crate) fn plain_and_room(
-    input: &mut [u8],
-    scalars: &mut [u8],
-    points: &mut [u64],
-    digits: &mut [i8],
+    bytes: &mut [u8],
     limbs: &mut [u64],
-    s: State,
-) -> Both {
-    let n = plain(input, scalars, points, s);
-    let m = room(input, digits, limbs, n.next);
-    Both { pairs: n, room: m }
-}
-
-// Scalars, points and flags, and then the room.
-pub(crate) fn pairs_and_room(
-    input: &mut [u8],
-    scalars: &mut [u8],
-    points: &mut [u64],
-    flags: &mut [u8],
     digits: &mut [i8],
-    limbs: &mut [u64],
+    windows: &mut [u64],
     s: State,
-) -> Both {
-    let n = pairs(input, scalars, points, flags, s);
-    let m = room(input, digits, limbs, n.next);
-    Both { pairs: n, room: m }
-}
-
-// The lengths of the static lists, and those of pairs and room behind them.
-pub(crate) struct AllLengths {
-    pub statics: Lengths,
-    pub both: Both,
-}
-
-// Static tables and scalars, and then dynamic pairs and the room.
-pub(crate) fn mixed(
-    input: &mut [u8],
-    tables: &mut [u64],
-    statics: &mut [u8],
-    scalars: &mut [u8],
-    points: &mut [u64],
-    flags: &mut [u8],
-    digits: &mut [i8],
-    limbs: &mut [u64],
-    s: State,
-) -> AllLengths {
-    let n = self::statics(input, tables, statics, s);
-    let m = pairs_and_room(input, scalars, points, flags, digits, limbs, n.next);
-    AllLengths {
-        statics: n,
-        both: m,
+) -> State {
+    if kind < 4 {
+        return list::bytes(input, parts::bytes_room(bytes, kind), s);
     }
+    if kind < 6 {
+        return list::limbs(input, parts::limbs_room(limbs, kind), s);
+    }
+    if kind == 6 {
+        return list::digits(input, digits, s);
+    }
+    list::limbs(input, windows, s)
 }
 
-// A prepared batch and the number of a slot.
-pub(crate) fn slot(input: &mut [u8], digits: &mut [i8], windows: &mut [u64], s: State) -> Lengths {
-    let n = room(input, digits, windows, s);
-    let s = input::number(input, 64, n.next);
-    let c = s.number as usize;
-    Lengths {
-        a: n.a,
-        b: n.b,
-        c: c,
+// A number, a digit, a point's flag, which is 0 or 1, or one of its limbs.
+fn one_number(kind: u64, input: &mut [u8], s: State) -> State {
+    if kind == 9 {
+        return input::next(input, s);
+    }
+    if kind == 10 {
+        let s = input::next(input, s);
+        return input::bad_if(s, s.number > 1);
+    }
+    input::number(input, 64, s)
+}
+
+// An argument of this kind.
+fn argument(
+    kind: u64,
+    input: &mut [u8],
+    bytes: &mut [u8],
+    limbs: &mut [u64],
+    digits: &mut [i8],
+    windows: &mut [u64],
+    s: State,
+) -> State {
+    if kind < 8 {
+        return one_list(kind, input, bytes, limbs, digits, windows, s);
+    }
+    one_number(kind, input, s)
+}
+
+// The arguments of these kinds; a case that has none is malformed.
+pub(crate) fn arguments(
+    kinds: u64,
+    input: &mut [u8],
+    bytes: &mut [u8],
+    limbs: &mut [u64],
+    digits: &mut [i8],
+    windows: &mut [u64],
+    s: State,
+) -> Handed {
+    let mut numbers = [0u64; 16];
+    let mut s = input::bad_if(s, kinds == 0);
+    let mut left = kinds;
+    while left != 0 {
+        let kind = left % 16;
+        s = argument(kind, input, bytes, limbs, digits, windows, s);
+        numbers[kind as usize] = s.number;
+        left = left / 16;
+    }
+    Handed {
+        numbers: numbers,
         next: s,
     }
 }

@@ -1,45 +1,51 @@
-// The calls by their codes: a call's arguments are read, it is run, and its line is put out.
+// The calls by their codes: a call is run on its lists, and its line is put out.
 mod batches;
-mod edits;
+mod elements;
 mod engines;
-mod group;
 mod rows;
-mod tables;
-mod windows;
 
-use crate::input::State;
+use crate::parts;
+use room::parts::digit_room;
+use room::parts::limb_room;
 
-// The case with this code, its arguments to be read.
+// The answer to the case with this code, whose numbers stand by the kinds of its arguments; how many bytes wait then.
 pub(crate) fn answer(
     code: u64,
-    input: &mut [u8],
+    n: [u64; 16],
+    bytes: &[u8],
+    limbs: &[u64],
+    digits: &mut [i8],
+    windows: &mut [u64],
     out: &mut [u8],
-    b0: &mut [u8],
-    b1: &mut [u8],
-    b2: &mut [u8],
-    d: &mut [i8],
-    l0: &mut [u64],
-    l1: &mut [u64],
-    l2: &mut [u64],
-    s: State,
-) -> State {
+    at: usize,
+) -> usize {
+    let d = digit_room(digits, 1, n[6] as usize);
+    let w = limb_room(windows, 1, n[7] as usize);
+    if code < 16 {
+        return plain(code, n, bytes, limbs, d, out, at);
+    }
+    if (code == 20) | ((code > 22) & (code < 26)) {
+        return batches::answer(code, n, bytes, limbs, d, w, out, at);
+    }
+    engines::answer(code, n, bytes, limbs, d, w, out, at)
+}
+
+// Codes 1 to 15, which report no counts and write no list.
+fn plain(
+    code: u64,
+    n: [u64; 16],
+    bytes: &[u8],
+    limbs: &[u64],
+    digits: &[i8],
+    out: &mut [u8],
+    at: usize,
+) -> usize {
+    let l = parts::limbs(limbs, 0, n[4]);
     if code < 5 {
-        return group::answer(code, input, out, l0, l1, s);
+        return elements::group(code, l, parts::limbs(limbs, 33024, n[5]), out, at);
     }
     if code < 10 {
-        return rows::answer(code, input, out, b0, d, s);
+        return rows::answer(code, parts::bytes(bytes, 0, n[1]), digits, n[8], out, at);
     }
-    if code < 16 {
-        return windows::answer(code, input, out, l0, s);
-    }
-    if code == 20 {
-        return tables::new(input, out, l0, l1, s);
-    }
-    if code == 21 {
-        return tables::mixed(input, out, l0, b0, b1, l1, b2, d, l2, s);
-    }
-    if code < 23 {
-        return engines::answer(code, input, out, b0, b1, d, l0, l1, s);
-    }
-    batches::answer(code, input, out, b0, b1, d, l0, l1, s)
+    elements::window(code, l, n[9], out, at)
 }

@@ -1,7 +1,6 @@
 // The checksum of a long list that a call may write.
 ghost use Rattle.replay.specs.Checksum.{Small};
 use crate::output::byte_of;
-use crate::output::limb_byte;
 
 // The checksum's two running sums, modulo 4294967291.
 pub(crate) struct Sums {
@@ -52,7 +51,7 @@ fn mixed_limb(c: Sums, limb: u64) -> Sums
     let mut c = c;
     let mut k: usize = 0;
     while k < 8 {
-        c = mixed(c, limb_byte(limb, k));
+        c = mixed(c, words::byte_of(limb, k));
         k += 1;
     }
     c

@@ -1,4 +1,4 @@
-// The cases on standard input: bytes through a buffer, numbers, and lists into lent memory.
+// The cases on standard input: bytes through a buffer, and numbers.
 ghost use Prim.Native.Nat.{_≤_};
 use libc::STDIN_FILENO;
 
@@ -9,13 +9,6 @@ pub(crate) struct State {
     pub number: u64,
     pub put: usize,
     pub bad: bool,
-}
-
-// What stands before a list's elements: their number, whether one is repeated, and what follows.
-pub(crate) struct Elements {
-    pub n: usize,
-    pub same: bool,
-    pub next: State,
 }
 
 // Nothing read, nothing written.
@@ -31,79 +24,59 @@ pub(crate) fn start() -> State {
 
 // The same place with another number in hand.
 pub(crate) fn with_number(s: State, number: u64) -> State {
-    State {
-        at: s.at,
-        end: s.end,
-        number: number,
-        put: s.put,
-        bad: s.bad,
-    }
+    let mut r = s;
+    r.number = number;
+    r
 }
 
 // The same place with other bytes waiting to be written.
 pub(crate) fn with_put(s: State, put: usize) -> State {
-    State {
-        at: s.at,
-        end: s.end,
-        number: s.number,
-        put: put,
-        bad: s.bad,
-    }
+    let mut r = s;
+    r.put = put;
+    r
 }
 
-// The case is malformed.
-pub(crate) fn malformed(s: State) -> State {
-    State {
-        at: s.at,
-        end: s.end,
-        number: 0,
-        put: s.put,
-        bad: true,
+// Malformed where this holds, with 0 in hand then.
+pub(crate) fn bad_if(s: State, bad: bool) -> State {
+    let mut r = s;
+    if bad {
+        r.number = 0;
+        r.bad = true;
     }
+    r
 }
 
-// A byte as a number.
-fn wide(byte: u8) -> u64 {
-    byte as u64
+// A byte of the buffer in hand, and the place behind it.
+fn taken(s: State, byte: u8, at: usize, end: usize) -> State {
+    let mut r = s;
+    r.number = byte as u64;
+    r.at = at;
+    r.end = end;
+    r
 }
 
 // The buffer filled again, and its first byte; malformed where the input has ended.
 fn refill(input: &mut [u8], s: State) -> State {
     let end = io::read_full(STDIN_FILENO, input);
     if end == 0 {
-        return malformed(s);
+        return bad_if(s, true);
     }
-    let number = wide(input[0]);
-    State {
-        at: 1,
-        end: end,
-        number: number,
-        put: s.put,
-        bad: false,
-    }
+    taken(s, input[0], 1, end)
 }
 
-// The next byte.
+// The next byte; a malformed case has none.
 pub(crate) fn next(input: &mut [u8], s: State) -> State {
     if s.bad {
         return s;
     }
     let at = s.at;
     let end = s.end;
-    if end <= at {
-        return refill(input, s);
+    if at < end {
+        if at < input.len() {
+            return taken(s, input[at], at + 1, end);
+        }
     }
-    if input.len() <= at {
-        return refill(input, s);
-    }
-    let number = wide(input[at]);
-    State {
-        at: at + 1,
-        end: end,
-        number: number,
-        put: s.put,
-        bad: false,
-    }
+    refill(input, s)
 }
 
 // The next number of so many bits, lowest byte first.
@@ -119,99 +92,4 @@ pub(crate) fn number(input: &mut [u8], bits: usize, s: State) -> State
         k += 8;
     }
     with_number(s, x)
-}
-
-// The head of a list that has at most so many elements.
-fn head(input: &mut [u8], most: usize, s: State) -> Elements
-    ensures { λ r. ⌜ r .n ≤ most ⌝ }
-{
-    let s = number(input, 32, s);
-    let n = s.number as usize;
-    let s = next(input, s);
-    let mode = s.number;
-    if mode > 1 {
-        return Elements {
-            n: 0,
-            same: true,
-            next: malformed(s),
-        };
-    }
-    if n > most {
-        return Elements {
-            n: 0,
-            same: true,
-            next: malformed(s),
-        };
-    }
-    let same = mode == 1;
-    Elements {
-        n: n,
-        same: same,
-        next: s,
-    }
-}
-
-// The next byte where it is wanted.
-fn next_if(input: &mut [u8], wanted: bool, s: State) -> State {
-    if wanted { next(input, s) } else { s }
-}
-
-// The next limb where it is wanted.
-fn limb_if(input: &mut [u8], wanted: bool, s: State) -> State {
-    if wanted { number(input, 64, s) } else { s }
-}
-
-// A list of bytes into the front of lent memory; the number in hand is how many.
-pub(crate) fn bytes(input: &mut [u8], list: &mut [u8], s: State) -> State {
-    let h = head(input, list.len(), s);
-    let n = h.n;
-    let same = h.same;
-    let mut s = next_if(input, same, h.next);
-    let mut i: usize = 0;
-    while i < n {
-        s = next_if(input, !same, s);
-        list[i] = (s.number % 256) as u8;
-        i += 1;
-    }
-    with_number(s, n as u64)
-}
-
-// A byte as a digit, two's complement.
-pub(crate) fn digit_of(byte: u64) -> i8 {
-    let b = byte % 256;
-    if b < 128 {
-        b as i8
-    } else {
-        ((b as i16) - 256) as i8
-    }
-}
-
-// A list of digits likewise.
-pub(crate) fn digits(input: &mut [u8], list: &mut [i8], s: State) -> State {
-    let h = head(input, list.len(), s);
-    let n = h.n;
-    let same = h.same;
-    let mut s = next_if(input, same, h.next);
-    let mut i: usize = 0;
-    while i < n {
-        s = next_if(input, !same, s);
-        list[i] = digit_of(s.number);
-        i += 1;
-    }
-    with_number(s, n as u64)
-}
-
-// A list of limbs likewise.
-pub(crate) fn limbs(input: &mut [u8], list: &mut [u64], s: State) -> State {
-    let h = head(input, list.len(), s);
-    let n = h.n;
-    let same = h.same;
-    let mut s = limb_if(input, same, h.next);
-    let mut i: usize = 0;
-    while i < n {
-        s = limb_if(input, !same, s);
-        list[i] = s.number;
-        i += 1;
-    }
-    with_number(s, n as u64)
 }

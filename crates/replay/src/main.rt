@@ -4,43 +4,72 @@ mod calls;
 mod checksum;
 mod input;
 mod line;
+mod list;
 mod output;
 mod parts;
 
+use arguments::arguments;
+use arguments::kinds;
 use calls::answer;
 use input::State;
 use input::next;
 use input::start;
+use input::with_put;
 use output::flush;
 use output::malformed;
 
-// Room for the bytes or flags of one list.
-fn bytes() -> [u8; 32832] {
-    [0; 32832]
+// Room for three lists of bytes or flags.
+fn bytes() -> [u8; 98496] {
+    [0; 98496]
 }
 
-// Room for the digits of one list.
+// Room for two lists of limbs.
+fn limbs() -> [u64; 66048] {
+    [0; 66048]
+}
+
+// Room for digits that a call may write.
 fn digits() -> [i8; 525056] {
     [0; 525056]
 }
 
-// Room for the limbs of one list.
-fn limbs() -> [u64; 33024] {
+// Room for limbs that a call may write.
+fn windows() -> [u64; 33024] {
     [0; 33024]
 }
 
-// One case. The state is bad after the last: the input has ended, or case number k is malformed.
+// A case whose code is in hand; case number k.
+fn case(
+    k: u64,
+    input: &mut [u8],
+    out: &mut [u8],
+    bytes: &mut [u8],
+    limbs: &mut [u64],
+    digits: &mut [i8],
+    windows: &mut [u64],
+    s: State,
+) -> State {
+    let code = s.number;
+    let a = arguments(kinds(code), input, bytes, limbs, digits, windows, s);
+    let s = a.next;
+    if s.bad {
+        malformed(out, s.put, k);
+        return s;
+    }
+    let n = a.numbers;
+    let put = answer(code, n, bytes, limbs, digits, windows, out, s.put);
+    with_put(s, put)
+}
+
+// The next case. The state is bad after the last: the input has ended, or case number k is malformed.
 fn one(
     k: u64,
     input: &mut [u8],
     out: &mut [u8],
-    b0: &mut [u8],
-    b1: &mut [u8],
-    b2: &mut [u8],
-    d: &mut [i8],
-    l0: &mut [u64],
-    l1: &mut [u64],
-    l2: &mut [u64],
+    bytes: &mut [u8],
+    limbs: &mut [u64],
+    digits: &mut [i8],
+    windows: &mut [u64],
     s: State,
 ) -> State {
     let s = next(input, s);
@@ -48,29 +77,22 @@ fn one(
         flush(out, s.put);
         return s;
     }
-    let s = answer(s.number, input, out, b0, b1, b2, d, l0, l1, l2, s);
-    if s.bad {
-        malformed(out, s.put, k);
-    }
-    s
+    case(k, input, out, bytes, limbs, digits, windows, s)
 }
 
 // Case after case. A proved loop has to end, and nothing says that the input does, so the cases are counted up to a number that no run reaches.
 fn replay(
     input: &mut [u8],
     out: &mut [u8],
-    b0: &mut [u8],
-    b1: &mut [u8],
-    b2: &mut [u8],
-    d: &mut [i8],
-    l0: &mut [u64],
-    l1: &mut [u64],
-    l2: &mut [u64],
+    bytes: &mut [u8],
+    limbs: &mut [u64],
+    digits: &mut [i8],
+    windows: &mut [u64],
 ) {
     let mut s = start();
     let mut k: u64 = 1;
     while k < u64::MAX {
-        s = one(k, input, out, b0, b1, b2, d, l0, l1, l2, s);
+        s = one(k, input, out, bytes, limbs, digits, windows, s);
         if s.bad {
             break;
         }
@@ -81,22 +103,9 @@ fn replay(
 fn main() {
     let mut input = io::large_buffer();
     let mut out = io::large_buffer();
-    let mut b0 = bytes();
-    let mut b1 = bytes();
-    let mut b2 = bytes();
+    let mut b = bytes();
+    let mut l = limbs();
     let mut d = digits();
-    let mut l0 = limbs();
-    let mut l1 = limbs();
-    let mut l2 = limbs();
-    replay(
-        &mut input,
-        &mut out,
-        &mut b0,
-        &mut b1,
-        &mut b2,
-        &mut d,
-        &mut l0,
-        &mut l1,
-        &mut l2,
-    );
+    let mut w = windows();
+    replay(&mut input, &mut out, &mut b, &mut l, &mut d, &mut w);
 }

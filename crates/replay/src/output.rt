@@ -19,7 +19,7 @@ pub(crate) fn put(out: &mut [u8], at: usize, byte: u8) -> usize {
 
 // What waits is written.
 pub(crate) fn flush(out: &mut [u8], at: usize) {
-    io::write_all(STDOUT_FILENO, parts::bytes(out, at));
+    io::write_all(STDOUT_FILENO, parts::bytes(out, 0, at as u64));
 }
 
 // A text.
@@ -78,13 +78,6 @@ pub(crate) fn byte_of(d: i8) -> u8 {
     m
 }
 
-// Byte k of a limb, the lowest being 0.
-pub(crate) fn limb_byte(limb: u64, k: usize) -> u8
-    requires { ⌜ k < 8 ⌝ }
-{
-    ((limb >> (8 * k)) % 256) as u8
-}
-
 // Bytes, in hexadecimal.
 pub(crate) fn hex_bytes(out: &mut [u8], at: usize, list: &[u8]) -> usize {
     let mut at = at;
@@ -112,7 +105,7 @@ fn hex_limb(out: &mut [u8], at: usize, limb: u64) -> usize {
     let mut at = at;
     let mut k: usize = 0;
     while k < 8 {
-        at = hex_byte(out, at, limb_byte(limb, k));
+        at = hex_byte(out, at, words::byte_of(limb, k));
         k += 1;
     }
     at

@@ -1,34 +1,48 @@
-// The first n elements of lent memory: the list that a case has there.
+// Parts of lent memory: the lists that a case has there, each kind of list (see `arguments::kinds`) in a part of its own.
 
-// Bytes or flags.
-pub(crate) fn bytes(list: &[u8], n: usize) -> &[u8] {
-    if n <= list.len() { &list[0..n] } else { list }
-}
-
-// Digits.
-pub(crate) fn digits(list: &[i8], n: usize) -> &[i8] {
-    if n <= list.len() { &list[0..n] } else { list }
-}
-
-// Limbs.
-pub(crate) fn limbs(list: &[u64], n: usize) -> &[u64] {
-    if n <= list.len() { &list[0..n] } else { list }
-}
-
-// Digits that a call may write.
-pub(crate) fn digits_room(list: &mut [i8], n: usize) -> &mut [i8] {
-    if n <= list.len() {
-        &mut list[0..n]
-    } else {
-        list
+// The part of bytes for kind 1, 2 or 3.
+pub(crate) fn bytes_room(list: &mut [u8], kind: u64) -> &mut [u8] {
+    if list.len() != 98496 {
+        return list;
     }
+    if kind == 1 {
+        return &mut list[0..32832];
+    }
+    if kind == 2 {
+        return &mut list[32832..65664];
+    }
+    &mut list[65664..98496]
 }
 
-// Limbs that a call may write.
-pub(crate) fn limbs_room(list: &mut [u64], n: usize) -> &mut [u64] {
-    if n <= list.len() {
-        &mut list[0..n]
-    } else {
-        list
+// The part of limbs for kind 4 or 5.
+pub(crate) fn limbs_room(list: &mut [u64], kind: u64) -> &mut [u64] {
+    if list.len() != 66048 {
+        return list;
     }
+    if kind == 4 {
+        return &mut list[0..33024];
+    }
+    &mut list[33024..66048]
+}
+
+// The list of n bytes that starts at this place; the memory where it has no such list.
+pub(crate) fn bytes(list: &[u8], from: usize, n: u64) -> &[u8] {
+    let n = n as usize;
+    if from <= list.len() {
+        if n <= list.len() - from {
+            return &list[from..from + n];
+        }
+    }
+    list
+}
+
+// Limbs likewise.
+pub(crate) fn limbs(list: &[u64], from: usize, n: u64) -> &[u64] {
+    let n = n as usize;
+    if from <= list.len() {
+        if n <= list.len() - from {
+            return &list[from..from + n];
+        }
+    }
+    list
 }

@@ -11,13 +11,14 @@ use Rattle.rules.specs.declared.Element.{Element}
 use Rattle.rules.specs.declared.Value.{Value}
 use Rattle.rules.specs.Values.{valueOf, elementAt, pointAt}
 use Rattle.rules.specs.Group.{L, added, subtracted, negated}
-use Rattle.rules.specs.Numbers.{any, first}
+use Rattle.rules.specs.Numbers.{anyBelow, first}
 use Rattle.rules.specs.Rows.{notLong}
 use Rattle.rules.specs.Windows.{over, anyOver, pointRefusal}
 use Rattle.rules.specs.Calls.{pairRefusal, groupAdd, groupSubtract, groupNegate, groupDouble}
 use Rattle.rules.specs.Helpers.{valueDone}
 use Rattle.answer.proofs.Answers.{done-value}
-use Rattle.residue.proofs.Members.{plus-law, minus-law, negative-law}
+use Rattle.limbs.proofs.Modulo.{plus-law, minus-law, negative-law}
+use Rattle.residue.proofs.Reduction.{L-modulus}
 
 -- what a test of an element says of the list that it was read from
 pub tested : (p : List ℕ) {x : Element} {r t : Bool} → r ≡ leb L (valueOf x) → x ≡ elementAt p 0 → r ≡ t → over p 0 ≡ t
@@ -34,7 +35,7 @@ module _ (p : List ℕ) where
   point-short h = rw (ne-eqb (length p) 4 h)
 
   pub point-tested : (t : Bool) → length p ≡ 4 → over p 0 ≡ t → cond t 7 0 ≡ pointRefusal p
-  unfolding pointRefusal first notLong anyOver any
+  unfolding pointRefusal first notLong anyOver anyBelow
   point-tested t l h = rw (l, h)
 
 module _ (a b : List ℕ) where
@@ -77,11 +78,11 @@ module _ (a b : List ℕ) {n : ℕ} (en : n ≡ pairRefusal a b) (z : n ≡ 0) {
 
   pub sum-answer : {e : Element} {r : Value} → e ≡ added x y → r ≡ valueDone e → r ≡ groupAdd a b
   unfolding groupAdd pointAt
-  sum-answer ee er = done-value (sym en ∙ z) _ er (ee ∙ plus-law x y (ap valueOf ex) (ap valueOf ey) (in-both .0) (in-both .1))
+  sum-answer ee er = done-value (sym en ∙ z) _ er (ee ∙ plus-law L-modulus x y (ap valueOf ex) (ap valueOf ey) (in-both .0) (in-both .1))
 
   pub difference-answer : {e : Element} {r : Value} → e ≡ subtracted x y → r ≡ valueDone e → r ≡ groupSubtract a b
   unfolding groupSubtract pointAt
-  difference-answer ee er = done-value (sym en ∙ z) _ er (ee ∙ minus-law x y (ap valueOf ex) (ap valueOf ey) (in-both .0) (in-both .1))
+  difference-answer ee er = done-value (sym en ∙ z) _ er (ee ∙ minus-law L-modulus x y (ap valueOf ex) (ap valueOf ey) (in-both .0) (in-both .1))
 
 module _ (a : List ℕ) {n : ℕ} (en : n ≡ pointRefusal a) (z : n ≡ 0) {x : Element} (ex : x ≡ elementAt a 0) where
   in-one : pointAt a 0 < L
@@ -89,8 +90,8 @@ module _ (a : List ℕ) {n : ℕ} (en : n ≡ pointRefusal a) (z : n ≡ 0) {x :
 
   pub inverse-answer : {e : Element} {r : Value} → e ≡ negated x → r ≡ valueDone e → r ≡ groupNegate a
   unfolding groupNegate pointAt
-  inverse-answer ee er = done-value (sym en ∙ z) _ er (ee ∙ negative-law x (ap valueOf ex) in-one)
+  inverse-answer ee er = done-value (sym en ∙ z) _ er (ee ∙ negative-law L-modulus x (ap valueOf ex) in-one)
 
   pub double-answer : {e : Element} {r : Value} → e ≡ added x x → r ≡ valueDone e → r ≡ groupDouble a
   unfolding groupDouble pointAt
-  double-answer ee er = done-value (sym en ∙ z) _ er (ee ∙ plus-law x x (ap valueOf ex) (ap valueOf ex) in-one in-one)
+  double-answer ee er = done-value (sym en ∙ z) _ er (ee ∙ plus-law L-modulus x x (ap valueOf ex) (ap valueOf ex) in-one in-one)

@@ -6,7 +6,7 @@ use native.Mathlib.Omega.{arith}
 use native.Mathlib.Decide.{decLt}
 use lib.ListN.{length, set}
 use Rattle.rules.specs.Numbers.{cleared}
-use Rattle.laws.specs.Room.{cleared-length, cleared-more, cleared-past}
+use Rattle.laws.proofs.Room.{cleared-length, cleared-more, cleared-past}
 
 module _ {A : Type 0} (z : A) (l₀ : List A) (n e : ℕ) (q : e ≡ min n (length l₀)) (i : ℕ) (l : List A) (s : l ≡ cleared z i l₀) where
   pub clear-long : length l ≡ length l₀

@@ -1,4 +1,2 @@
-pub mod Puts
-pub mod Joined
-mod Copies
 mod Clearing
+mod Units

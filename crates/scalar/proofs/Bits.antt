@@ -6,9 +6,10 @@ use native.Mathlib.Nat.{mul-assoc, mul-comm, mul-mod-left, mul-add-div-right, ad
 use native.Mathlib.Omega.{arith}
 use lib.ListN.{getD, drop}
 use lib.Bits.{bitAnd, bitOr, and-mask, or-shifted-r}
-use lib.Pow.{shr-shr, shr-lt, shl-shr, field, high, low, mod-mod-pow, mod-pow-add, pow-add, pow-pos}
+use lib.Pow.{shr-lt, shl-shr, high, low, mod-mod-pow, mod-pow-add, pow-add, pow-pos}
 use Rattle.rules.specs.Values.{number, limb, Below}
-use Rattle.laws.specs.Numerals.{number-at, number-from}
+use Rattle.laws.proofs.Numerals.{number-at}
+use Rattle.words.proofs.Bits.{from-bit, in-limb}
 
 -- the lowest j + k bits of a number that k bits of 0 were put below
 shifted : (x j k : ℕ) → x * 2 ^ k % 2 ^ (j + k) ≡ x % 2 ^ j * 2 ^ k
@@ -18,17 +19,6 @@ shifted x j k = mod-pow-add (x * 2 ^ k) j k ∙ rw (shl-shr x k, mul-mod-left x 
 module _ (y x z r : ℕ) (lt : x < limb) (e : y ≡ x + limb * z) (h : r < 64) where
   whole : 64 - r + r ≡ 64
   whole = omega arith
-
-  low-word : x ≡ y % 2 ^ (64 - r + r)
-  low-word = rw whole (omega arith)
-
-  -- where the window ends within x
-  pub one-word : (w : ℕ) → w ≤ 64 - r → x / 2 ^ r % 2 ^ w ≡ y / 2 ^ r % 2 ^ w
-  one-word w wle =
-      let j : 64 - r ≡ 64 - r - w + w = omega arith in
-      ap (λ (v : ℕ). v / 2 ^ r % 2 ^ w) low-word
-      ∙ ap (λ (v : ℕ). v % 2 ^ w) (field y (64 - r) r ∙ ap (λ (k : ℕ). y / 2 ^ r % 2 ^ k) j)
-      ∙ mod-mod-pow (y / 2 ^ r) (64 - r - w) w
 
   -- the bits that wait in x, and those of the next word x′ shifted to stand above them
   module _ (x′ z′ : ℕ) (e′ : z ≡ x′ + limb * z′) where
@@ -59,32 +49,17 @@ module _ (y x z r : ℕ) (lt : x < limb) (e : y ≡ x + limb * z) (h : r < 64) w
 
 -- the buffer of the bits from bit pos on, where they stand in one word, and where they reach into the next
 module _ (l : List ℕ) (b : Below limb l) (pos w : ℕ) where
-  y : ℕ
-  y = number limb (drop (pos / 64) l)
-
-  from : y / 2 ^ (pos % 64) ≡ number limb l / 2 ^ pos
-  unfolding y
-  from =
-      let e : 64 * (pos / 64) + pos % 64 ≡ pos = omega arith in
-      ap (λ (v : ℕ). v / 2 ^ (pos % 64)) (sym (number-from 64 l b (pos / 64)))
-      ∙ shr-shr (number limb l) (64 * (pos / 64)) (pos % 64)
-      ∙ ap (λ (v : ℕ). number limb l / 2 ^ v) e
-
   pub buffer-one : pos % 64 < 64 - w → getD l (pos / 64) 0 / 2 ^ (pos % 64) % 2 ^ w ≡ number limb l / 2 ^ pos % 2 ^ w
-  unfolding y
-  buffer-one h =
-      one-word y (getD l (pos / 64) 0) (number limb (drop (suc (pos / 64)) l)) (pos % 64) (b (pos / 64)) (number-at limb l (pos / 64)) (omega arith) w (omega arith)
-      ∙ ap (λ (v : ℕ). v % 2 ^ w) from
+  buffer-one h = in-limb l b pos w (omega arith)
 
   pub buffer-two : w ≤ 64
       → bitOr (getD l (pos / 64) 0 / 2 ^ (pos % 64)) (getD l (1 + pos / 64) 0 * 2 ^ (64 - pos % 64) % limb) % 2 ^ w ≡ number limb l / 2 ^ pos % 2 ^ w
-  unfolding y
   buffer-two h =
       let s : 1 + pos / 64 ≡ suc (pos / 64) = omega arith in
       rw s
-      (two-words y (getD l (pos / 64) 0) (number limb (drop (suc (pos / 64)) l)) (pos % 64) (b (pos / 64)) (number-at limb l (pos / 64)) (omega arith)
+      (two-words _ (getD l (pos / 64) 0) (number limb (drop (suc (pos / 64)) l)) (pos % 64) (b (pos / 64)) (number-at limb l (pos / 64)) (omega arith)
       (getD l (suc (pos / 64)) 0) (number limb (drop (suc (suc (pos / 64))) l)) (number-at limb l (suc (pos / 64))) w h
-      ∙ ap (λ (v : ℕ). v % 2 ^ w) from)
+      ∙ ap (λ (v : ℕ). v % 2 ^ w) (from-bit l b pos))
 
 -- a mask of w bits
 pub masked : (x f w v : ℕ) → f ≡ 2 ^ w → x % 2 ^ w ≡ v → bitAnd x (f - 1) ≡ v

@@ -1,20 +1,18 @@
 -- What the fronts answer: by the width, refused, and done.
 use mathlib.Core.Path.{_≡_, sym, ap, _∙_}
-use mathlib.Core.Bool.{Bool, true, false}
-use mathlib.Core.List.{List, [], _∷_}
+use mathlib.Core.Bool.{true, false}
+use mathlib.Core.List.{List}
 use Prim.Native.Nat.{ℕ, _≤_, _<_}
 use native.Mathlib.Omega.{arith}
 use lib.ListN.{length, replicate, take}
 use lib.Seq.{take-all}
-use lib.IntN.{ℤ, pos, natAbs}
+use lib.IntN.{ℤ, pos}
 use lib.Dec.{eqb, ltb}
 use borrow.Author.Tests.{eq-eqb, lt-ltb, le-ltb, eqb-true, ltb-false, not-false}
-use Rattle.rules.specs.declared.ScalarBytes.{ScalarBytes}
-use Rattle.rules.specs.Values.{number, places}
-use Rattle.rules.specs.Numbers.{first, nafAnswer, radixAnswer, bytesAnswer}
-use Rattle.laws.specs.Conditions.{first-none, given-done, given-refused, given-same, or-left, or-right, or-split}
-use Rattle.rules.specs.Rows.{notLong, widthOff, rowless, recodeRefusal, noScalar, nafRow, nafRowOf, nafOf, radixRow, radixRowOf, radixOf}
-use Rattle.scalar.specs.Readers.{shapeRefusal}
+use Rattle.rules.specs.Values.{number}
+use Rattle.rules.specs.Numbers.{nafAnswer, radixAnswer}
+use Rattle.laws.specs.Conditions.{first-none, given-done, given-refused, or-left, or-right, or-split}
+use Rattle.rules.specs.Rows.{notLong, widthOff, rowless, recodeRefusal, nafRow, nafRowOf, nafOf, radixRow, radixRowOf, radixOf}
 
 -- ---- the width
 
@@ -77,37 +75,3 @@ module _ (l : List ℕ) (w n : ℕ) where
   radix-done e z row r =
       let p = passed 4 l w (sym z ∙ e) in
       rw (← e, z, given-done (replicate 64 (pos 0)) (radixRow w (number 256 l))) (ap (λ (x : List ℤ). record { number = 0; row = x }) (r ∙ rw (p .1 .0, all-taken l (p .0))))
-
--- ---- the readers
-
-pub shape-passed : (n low : ℕ) (row : List ℤ) (w : ℕ) → 0 ≡ shapeRefusal n low row w → (length row ≡ n) × (widthOff low w ≡ false)
-unfolding shapeRefusal
-shape-passed n low row w e =
-    let p = first-none _ 1 _ (λ q. omega arith) e in
-    (long-is n row (p .0), first-none _ 3 _ (λ q. omega arith) (p .1) .0)
-
--- row a list of n digits, low the least width, z what it sums to
-module _ (n low w : ℕ) (rowOf : ℕ → List ℤ) (row : List ℤ) (z : ℤ) where
-  abbrev pub readRefusal : ℕ
-  readRefusal = first ((notLong n row, 1) ∷ (widthOff low w, 3) ∷ (noScalar rowOf z row, 10) ∷ [])
-
-  -- refused for its shape
-  pub read-refused : (k : ℕ) (r : ScalarBytes) → k ≡ shapeRefusal n low row w → (k ≡ 0 → ⊥) → r ≡ bytesAnswer k 0 → r ≡ bytesAnswer readRefusal (natAbs z)
-  unfolding shapeRefusal first bytesAnswer
-  read-refused k r e h f =
-      f ∙ rw (go (notLong n row) (widthOff low w) e, given-refused 0 (natAbs z) k h, given-same {A = ℕ} k 0)
-    where
-      go : (a b : Bool) → k ≡ first ((a, 1) ∷ (b, 3) ∷ []) → first ((a, 1) ∷ (b, 3) ∷ (noScalar rowOf z row, 10) ∷ []) ≡ k
-      go true b q = sym q
-      go false true q = sym q
-      go false false q = absurd (h q)
-
-  -- where its shape is right, it is answered by whether a scalar has it
-  module _ (right : 0 ≡ shapeRefusal n low row w) where
-    pub read-none : noScalar rowOf z row ≡ true → bytesAnswer 10 0 ≡ bytesAnswer readRefusal (natAbs z)
-    unfolding first bytesAnswer
-    read-none h = let p = shape-passed n low row w right in rw (is-long n row (p .0), p .1, h, given-refused 0 (natAbs z) 10 (λ e. omega arith), given-same {A = ℕ} 10 0)
-
-    pub read-found : noScalar rowOf z row ≡ false → (bytes : List ℕ) → bytes ≡ places 256 32 (natAbs z) → record { number = 0; bytes = bytes } ≡ bytesAnswer readRefusal (natAbs z)
-    unfolding first bytesAnswer
-    read-found h bytes e = let p = shape-passed n low row w right in rw (is-long n row (p .0), p .1, h, given-done 0 (natAbs z), e)

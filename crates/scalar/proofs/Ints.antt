@@ -1,21 +1,17 @@
 -- Signed integers of the machine: what its casts, shifts and differences are as numbers.
 use mathlib.Core.Path.{_≡_, refl, sym, ap, _∙_}
-use mathlib.Core.Bool.{Bool, true, false}
 use Prim.Native.Nat.{ℕ, zero, suc, _+_, _-_, _*_, _/_, _%_, _^_, _≤_, _<_}
 use native.Mathlib.Nat.{zero-mul, one-mul}
 use native.Mathlib.Omega.{arith}
 use native.Mathlib.Decide.{decLt}
-use borrow.Author.Tests.{lt-ltb, le-ltb, eq-eqb, ne-eqb}
-use lib.IntN.{ℤ, pos, negsuc, natAbs, subℕ, _+ℤ_, _-ℤ_, ℤ-discrete}
-use lib.Dec.{eqb}
+use borrow.Author.Tests.{lt-ltb, le-ltb}
+use lib.IntN.{ℤ, pos, negsuc, natAbs, subℕ, _+ℤ_, _-ℤ_}
 use lib.Signed.{shrZ}
 use lib.Pow.{pow-mono}
 use mir.Syntax.{w8, w16, w64}
 use mir.Val.{SFits, toZ, ofZ}
 use mir.Facts.{toZ-pos, toZ-neg, toZ-ofZ, sfits-widen}
-use Rattle.rules.specs.Rows.{sameDigit}
 use Rattle.laws.specs.Digits.{wide, carry, carry-low, carry-high}
-use Rattle.laws.specs.RowsRead.{same-digit}
 use Rattle.scalar.specs.Nibbles.{Small}
 use Rattle.scalar.specs.Wrap.{wrapped}
 
@@ -146,30 +142,3 @@ module _ (v c : ℕ) (hv : v < 512) (hc : c ≤ v + 128) (h : v < c + 128) where
 
   pub narrowed : toZ w8 (ofZ w8 (toZ w64 (ofZ w64 (toZ w64 v -ℤ toZ w64 c)))) ≡ subℕ v c
   narrowed = rw (toZ-ofZ sub64-fits, toZ-ofZ sub64-8) sub64
-
--- ---- a digit and a small number
-
-module _ (d : ℤ) (n : ℕ) (f : SFits w8 d) (lt : n < 128) (g : SFits w8 (d +ℤ pos n)) where
-  fold : toZ w8 (ofZ w8 d) +ℤ toZ w8 n ≡ d +ℤ pos n
-  fold = rw (toZ-ofZ f, toZ-pos w8 {n = n} lt)
-
-  pub fold-fits : SFits w8 (toZ w8 (ofZ w8 d) +ℤ toZ w8 n)
-  fold-fits = rw fold g
-
-  pub fold-is : toZ w8 (ofZ w8 (toZ w8 (ofZ w8 d) +ℤ toZ w8 n)) ≡ d +ℤ pos n
-  fold-is = toZ-ofZ fold-fits ∙ fold
-
--- ---- digits are the same where their bits are
-
-pub same-bits : (x y : ℤ) → SFits w8 x → SFits w8 y → eqb (ofZ w8 x) (ofZ w8 y) ≡ sameDigit x y
-same-bits x y f g = go (ℤ-discrete x y)
-  where
-    go : Dec (x ≡ y) → eqb (ofZ w8 x) (ofZ w8 y) ≡ sameDigit x y
-    go (yes e) = eq-eqb (ofZ w8 x) (ofZ w8 y) (ap (ofZ w8) e) ∙ sym (same-digit x y .1 e)
-    go (no n) =
-        ne-eqb (ofZ w8 x) (ofZ w8 y) (λ e. n (sym (toZ-ofZ f) ∙ ap (toZ w8) e ∙ toZ-ofZ g))
-        ∙ sym (not-true (sameDigit x y) (λ e. n (same-digit x y .0 e)))
-      where
-        not-true : (b : Bool) → (b ≡ true → ⊥) → b ≡ false
-        not-true true h = absurd (h refl)
-        not-true false h = refl

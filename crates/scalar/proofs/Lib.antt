@@ -3,9 +3,6 @@ pub mod Bits
 pub mod Fronts
 pub mod Ints
 pub mod Top
-pub mod Modulo
 pub mod NafTurn
 pub mod NibbleTurn
 pub mod RadixTurn
-pub mod Reading
-pub mod ReadBack

@@ -16,7 +16,7 @@ use mir.Syntax.{w8}
 use mir.Val.{toZ, ofZ}
 use mir.Facts.{toZ-ofZ}
 use Rattle.scalar.specs.Nibbles.{Small, Nibbles}
-use Rattle.laws.specs.Numerals.{number-at, number-from}
+use Rattle.laws.proofs.Numerals.{number-at, number-from}
 use Rattle.scalar.proofs.Ints.{fits8}
 
 -- ---- a byte of the first 32, in the number that they say

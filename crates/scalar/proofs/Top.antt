@@ -7,7 +7,7 @@ use lib.ListN.{length, getD}
 use lib.Dec.{leb, ltb}
 use Rattle.rules.specs.Values.{number, Below}
 use Rattle.rules.specs.Numbers.{rowBound}
-use Rattle.laws.specs.Numerals as numerals
+use Rattle.laws.proofs.Numerals as numerals
 
 -- the tie of the bound to the byte that the code tests
 bound-is : rowBound ≡ 128 * 2 ^ 248

@@ -1,5 +1,3 @@
 pub mod Nibbles
-pub mod Readers
-pub mod Sums
 pub mod Words
 pub mod Wrap

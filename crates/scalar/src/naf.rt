@@ -2,13 +2,14 @@
 ghost use mathlib.Core.Path.{_≡_};
 ghost use Prim.Native.Nat.{_≤_};
 ghost use lib.ListN.{take};
+ghost use Rattle.rules.specs.Lent.{was};
 ghost use Rattle.rules.specs.Values.{number};
 ghost use Rattle.rules.specs.Rows.{nafOf, nafRow, nafRowOf};
 ghost use Rattle.scalar.specs.Wrap.{wrapped};
-use super::words::bit_buf;
-use super::words::power;
-use super::words::recode_refusal;
-use super::words::words;
+use super::buffer::bit_buf;
+use super::buffer::five_words;
+use super::buffer::power;
+use super::buffer::recode_refusal;
 use rules::NafRow;
 
 // A window narrowed to eight bits with wrap, less the width narrowed to eight bits with wrap.
@@ -26,10 +27,10 @@ fn wrapping_digit(window: u64, width: u64) -> i8
 // The digits of the non-adjacent form of width w.
 fn naf_digits(scalar: &[u8], w: usize) -> [i8; 256]
     requires { ⌜ (2 ≤ w) × (w ≤ 8) ⌝ }
-    ensures { λ r. ⌜ r ≡ nafRow w (number 256 (take 32 (now (scalar .entry)))) ⌝ }
+    ensures { λ r. ⌜ r ≡ nafRow w (number 256 (take 32 (was scalar))) ⌝ }
 {
     let mut naf = [0i8; 256];
-    let x_u64 = words(scalar);
+    let x_u64 = five_words(scalar);
     let width = power(w);
     let window_mask = width - 1;
     let mut pos: usize = 0;
@@ -54,7 +55,7 @@ fn naf_digits(scalar: &[u8], w: usize) -> [i8; 256]
 
 // The NAF row of the first 32 bytes for the engines, zeros at a width outside 2 to 8.
 pub fn naf_row(scalar: &[u8], w: usize) -> [i8; 256]
-    ensures { λ r. ⌜ r ≡ nafRowOf (now (scalar .entry)) w ⌝ }
+    ensures { λ r. ⌜ r ≡ nafRowOf (was scalar) w ⌝ }
 {
     if w < 2 {
         return [0i8; 256];
@@ -67,7 +68,7 @@ pub fn naf_row(scalar: &[u8], w: usize) -> [i8; 256]
 
 // The NAF row of a scalar, width w.
 pub fn non_adjacent_form(scalar: &[u8], w: usize) -> NafRow
-    ensures { λ r. ⌜ r ≡ nafOf (now (scalar .entry)) w ⌝ }
+    ensures { λ r. ⌜ r ≡ nafOf (was scalar) w ⌝ }
 {
     let number = recode_refusal(scalar, 2, w);
     if number != 0 {

@@ -2,28 +2,36 @@
 ghost use mathlib.Core.Path.{_≡_};
 ghost use Prim.Native.Nat.{_+_, _*_, _/_, _%_, _≤_, _<_};
 ghost use lib.ListN.{take};
-ghost use lib.IntN.{pos, natAbs, subℕ, _+ℤ_};
-ghost use mir.Syntax.{w8};
-ghost use mir.Val.{SFits};
+ghost use lib.IntN.{pos, natAbs, subℕ};
+ghost use Rattle.rules.specs.Lent.{was};
 ghost use Rattle.rules.specs.Values.{number};
-ghost use Rattle.rules.specs.Rows.{radixOf, radixRow, radixRowOf};
+ghost use Rattle.rules.specs.Rows.{usedPlaces, radixOf, radixRow, radixRowOf};
 ghost use Rattle.scalar.specs.Nibbles.{Small, Nibbles};
-use super::words::bit_buf;
-use super::words::byte;
-use super::words::power;
-use super::words::recode_refusal;
-use super::words::words;
+use super::buffer::bit_buf;
+use super::buffer::five_words;
+use super::buffer::power;
+use super::buffer::recode_refusal;
 use rules::RadixRow;
 
+// The places that radix 2^w uses: 64, 52, 43, 37, 33 for w = 4 to 8.
+pub fn to_radix_2w_size_hint(w: usize) -> usize
+    ensures { λ r. ⌜ r ≡ usedPlaces w ⌝ }
+{
+    if w == 0 {
+        return 1;
+    }
+    if w == 4 { 64 } else { 256 / w + 1 }
+}
+
 // The low four bits of a byte.
-fn bot_half(x: u64) -> i8
+fn bot_half(x: u8) -> i8
     ensures { λ r. ⌜ r ≡ pos (x % 16) ⌝ }
 {
     (x & 15) as i8
 }
 
 // The high four bits of a byte.
-fn top_half(x: u64) -> i8
+fn top_half(x: u8) -> i8
     ensures { λ r. ⌜ r ≡ pos (x / 16 % 16) ⌝ }
 {
     ((x >> 4) & 15) as i8
@@ -31,11 +39,11 @@ fn top_half(x: u64) -> i8
 
 // The first 32 bytes as 64 digits from 0 to 15.
 fn nibbles(scalar: &[u8]) -> [i8; 64]
-    ensures { λ r. ⌜ Nibbles r (number 256 (take 32 (now (scalar .entry)))) ⌝ }
+    ensures { λ r. ⌜ Nibbles r (number 256 (take 32 (was scalar))) ⌝ }
 {
     let mut output = [0i8; 64];
     for i in 0..32 {
-        let x = byte(scalar, i);
+        let x = words::byte_at(scalar, i);
         output[2 * i] = bot_half(x);
         output[2 * i + 1] = top_half(x);
     }
@@ -68,7 +76,7 @@ fn carried(d: i8, carry: i8) -> i8
 
 // The radix-16 row: the last digit takes its carry and is not recentred.
 fn radix_16(scalar: &[u8]) -> [i8; 64]
-    ensures { λ r. ⌜ r ≡ radixRow 4 (number 256 (take 32 (now (scalar .entry)))) ⌝ }
+    ensures { λ r. ⌜ r ≡ radixRow 4 (number 256 (take 32 (was scalar))) ⌝ }
 {
     let mut output = nibbles(scalar);
     for i in 0..63 {
@@ -89,43 +97,30 @@ fn digit(coef: u64, carried: u64) -> i8
     ((coef as i64) - (carried as i64)) as i8
 }
 
-// A digit with the last carry.
-fn folded(d: i8, carry: u64) -> i8
-    requires { ⌜ (carry < 128) × SFits w8 (d +ℤ pos carry) ⌝ }
-    ensures { λ r. ⌜ r ≡ d +ℤ pos carry ⌝ }
-{
-    d + (carry as i8)
-}
-
-// The radix 2^w row for w = 5 to 8; the last carry has a place of its own at w = 8.
+// The radix 2^w row for w = 5 to 8: the last place takes its carry and is not recentred.
 fn radix_2w(scalar: &[u8], w: usize) -> [i8; 64]
     requires { ⌜ (5 ≤ w) × (w ≤ 8) ⌝ }
-    ensures { λ r. ⌜ r ≡ radixRow w (number 256 (take 32 (now (scalar .entry)))) ⌝ }
+    ensures { λ r. ⌜ r ≡ radixRow w (number 256 (take 32 (was scalar))) ⌝ }
 {
-    let x_u64 = words(scalar);
+    let x_u64 = five_words(scalar);
     let radix = power(w);
     let window_mask = radix - 1;
+    let last = to_radix_2w_size_hint(w) - 1;
     let mut carry: u64 = 0;
     let mut digits = [0i8; 64];
-    let digits_count = (256 + w - 1) / w;
-    for i in 0..digits_count {
+    for i in 0..last {
         let coef = carry + (bit_buf(x_u64, i * w, w) & window_mask);
         carry = (coef + radix / 2) >> w;
         digits[i] = digit(coef, carry << w);
     }
-    if w == 8 {
-        let d = digits[digits_count];
-        digits[digits_count] = folded(d, carry);
-    } else {
-        let d = digits[digits_count - 1];
-        digits[digits_count - 1] = folded(d, carry << w);
-    }
+    let coef = carry + (bit_buf(x_u64, last * w, w) & window_mask);
+    digits[last] = digit(coef, 0);
     digits
 }
 
 // The radix 2^w row of the first 32 bytes for the engines, zeros at a width outside 4 to 8.
 pub fn radix_row(scalar: &[u8], w: usize) -> [i8; 64]
-    ensures { λ r. ⌜ r ≡ radixRowOf (now (scalar .entry)) w ⌝ }
+    ensures { λ r. ⌜ r ≡ radixRowOf (was scalar) w ⌝ }
 {
     if w < 4 {
         return [0i8; 64];
@@ -141,7 +136,7 @@ pub fn radix_row(scalar: &[u8], w: usize) -> [i8; 64]
 
 // The radix 2^w row of a scalar.
 pub fn as_radix_2w(scalar: &[u8], w: usize) -> RadixRow
-    ensures { λ r. ⌜ r ≡ radixOf (now (scalar .entry)) w ⌝ }
+    ensures { λ r. ⌜ r ≡ radixOf (was scalar) w ⌝ }
 {
     let number = recode_refusal(scalar, 4, w);
     if number != 0 {
@@ -154,7 +149,7 @@ pub fn as_radix_2w(scalar: &[u8], w: usize) -> RadixRow
 
 // The radix-16 row of a scalar.
 pub fn as_radix_16(scalar: &[u8]) -> RadixRow
-    ensures { λ r. ⌜ r ≡ radixOf (now (scalar .entry)) 4 ⌝ }
+    ensures { λ r. ⌜ r ≡ radixOf (was scalar) 4 ⌝ }
 {
     as_radix_2w(scalar, 4)
 }

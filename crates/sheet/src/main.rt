@@ -1,5 +1,4 @@
 // The bench sheet: runs its unstarred cases and prints `name number result`.
-ghost use Prim.Native.Nat.{_<_};
 use libc::STDOUT_FILENO;
 use rules::Element;
 use rules::OptionalPoint;
@@ -7,39 +6,17 @@ use rules::Sum;
 
 // L, the group's order.
 fn order() -> [u64; 4] {
-    [
-        6346243789798364141,
-        1503914060200516822,
-        0,
-        1152921504606846976,
-    ]
-}
-
-// Byte k of four limbs, lowest first.
-fn byte(value: [u64; 4], k: usize) -> u8
-    requires { ⌜ k < 32 ⌝ }
-{
-    ((value[k / 8] >> ((k % 8) * 8)) % 256) as u8
+    limbs::array(residue::order())
 }
 
 // The 32 bytes of four limbs as 64 hex digits.
 fn print(value: [u64; 4]) {
+    let bytes = words::bytes(&value);
     let mut k: usize = 0;
     while k < 32 {
-        io::print_hex(STDOUT_FILENO, byte(value, k) as u64, 2);
+        io::print_hex(STDOUT_FILENO, bytes[k] as u64, 2);
         k += 1;
     }
-}
-
-// The 32 bytes of four limbs.
-fn bytes(value: [u64; 4]) -> [u8; 32] {
-    let mut out = [0u8; 32];
-    let mut k: usize = 0;
-    while k < 32 {
-        out[k] = byte(value, k);
-        k += 1;
-    }
-    out
 }
 
 // One line: the case's name, the number, the result.
@@ -78,7 +55,7 @@ fn e3() {
 
 // E4: (L, 1).
 fn e4() {
-    let scalars = bytes(order());
+    let scalars = words::bytes(&order());
     let points = [1u64, 0, 0, 0];
     let flags = [1u8];
     naf_straus(b"E4", &scalars, &points, &flags);

@@ -7,7 +7,7 @@ use lib.IntN.{ℤ, pos}
 use Rattle.rules.specs.declared.Sum.{Sum}
 use Rattle.rules.specs.Numbers.{summed}
 use Rattle.rules.specs.Engines.{After, radixStrausRefusal, radixStraus, nafStrausRefusal, nafStraus}
-use Rattle.laws.specs.Room.{room-refused}
+use Rattle.laws.proofs.Room.{room-refused}
 use Rattle.answer.proofs.Answers.{refused-sum}
 
 pub after : {r s : Sum} {d e : List ℤ} {l k : List ℕ} → r ≡ s → d ≡ e → l ≡ k → _≡_ {A = After} (record { result = r; digits = d; limbs = l }) (record { result = s; digits = e; limbs = k })

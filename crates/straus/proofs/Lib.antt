@@ -1,5 +1,4 @@
 mod Refusing
-mod Filling
 mod Walking
 mod Answering
 mod RadixDone

@@ -1,41 +1,21 @@
--- Radix-16 Straus step by step: the rows and windows that are laid into lent room, and the walk down their columns.
+-- Radix-16 Straus step by step: the walk down the columns of rows and windows in lent room.
 use mathlib.Core.List.{List}
 use Prim.Native.Nat.{ℕ, _*_, _≤_}
 use lib.ListN.{length}
 use lib.IntN.{ℤ}
 use Rattle.rules.specs.declared.Element.{Element}
 use Rattle.rules.specs.declared.Walk.{Walk}
-use Rattle.rules.specs.Values.{elementOf, part, elementAt}
+use Rattle.rules.specs.Values.{elementOf, part}
 use Rattle.rules.specs.Group.{elements}
 use Rattle.rules.specs.Loops.{down}
-use Rattle.rules.specs.Rows.{digit, radixRowOf}
-use Rattle.rules.specs.Windows.{successive}
-use Rattle.rules.specs.Helpers.{elementsFlat, lookedUp, Filled}
-use Rattle.laws.specs.Laid.{laid}
+use Rattle.rules.specs.Rows.{digit}
+use Rattle.rules.specs.Helpers.{lookedUp}
 use Rattle.laws.specs.RadixWalk.{radixTurn}
 
--- room for m rows and their windows
+-- m rows and their windows lie in lent room
 pub record Rows (m : ℕ) (ds : List ℤ) (ls : List ℕ) : Type 0 where
-  pub few : m ≤ 1024
   pub digits : 64 * m ≤ length ds
   pub limbs : 32 * m ≤ length ls
-
--- and m scalars
-pub record Room (ss : List ℕ) (m : ℕ) (ds : List ℤ) (ls : List ℕ) : Type 0 where
-  pub rows : Rows m ds ls
-  pub scalars : 32 * m ≤ length ss
-
--- the row of scalar i, the window of point i
-abbrev pub rowOf : List ℕ → ℕ → List ℤ
-rowOf ss i = radixRowOf (part 32 i ss) 4
-
-abbrev pub windowOf : List ℕ → ℕ → List ℕ
-windowOf ps i = elementsFlat (successive elements (elementAt ps i)) 8
-
--- m rows and windows, part after part; the rest is untouched
-unfoldable pub radixFilled : List ℕ → List ℕ → ℕ → List ℤ → List ℕ → Filled
-radixFilled ss ps m ds ls =
-    record { counts = record { additions = 7 * m; doublings = 0 }; digits = laid 64 (rowOf ss) m ds; windows = laid 32 (windowOf ps) m ls }
 
 -- the entry that digit j of row i names in window i
 unfoldable pub rowEntry : List ℤ → List ℕ → ℕ → ℕ → Element

@@ -1,5 +1,6 @@
 // NAF Straus: what it asks of its lists.
 ghost use mathlib.Core.Path.{_≡_};
+ghost use Rattle.rules.specs.Lent.{was};
 ghost use Rattle.rules.specs.Engines.{nafStrausRefusal};
 
 // The number that the call answers.
@@ -10,29 +11,16 @@ pub(crate) fn refusal(
     digits: usize,
     limbs: usize,
 ) -> u8
-    ensures { λ r. ⌜ r ≡ nafStrausRefusal (now (scalars .entry)) (now (points .entry)) (now (flags .entry)) digits limbs ⌝ }
+    ensures { λ r. ⌜ r ≡ nafStrausRefusal (was scalars) (was points) (was flags) digits limbs ⌝ }
 {
-    if lent::lists_not_whole(scalars, points, flags) {
-        return 1;
+    let n = lent::lists(scalars, points, flags);
+    if n != 0 {
+        return n;
     }
-    if lent::lists_too_many(scalars, points) {
-        return 2;
+    let m = lent::pairs(scalars, points);
+    let k = lent::room(256 * m, digits, 32 * m, limbs);
+    if k != 0 {
+        return k;
     }
-    let m = lent::smaller(scalars.len() / 32, points.len() / 4);
-    if digits < 256 * m {
-        return 5;
-    }
-    if limbs < 32 * m {
-        return 5;
-    }
-    if lent::any_big(scalars) {
-        return 6;
-    }
-    if lent::bad_lists(points, flags) {
-        return 7;
-    }
-    if lent::absent_below(points, flags, points.len() / 4) {
-        return 8;
-    }
-    0
+    lent::contents(scalars, points, flags, points.len() / 4)
 }

@@ -1,36 +1,29 @@
--- Which number the call answers, by its tests, and what it answers where all have passed.
+-- What the call answers where all tests have passed.
 use mathlib.Core.Path.{_≡_, refl, sym, ap, ap₂, _∙_}
-use mathlib.Core.Bool.{Bool, false, cond}
 use mathlib.Core.List.{List}
 use Prim.Native.Nat.{ℕ, _+_, _*_, _%_, _<_}
 use native.Mathlib.Nat.{zero-add}
 use native.Mathlib.Omega.{arith}
 use lib.ListN.{length}
 use lib.IntN.{ℤ}
-use borrow.Author.Tests.{eq-eqb, ne-eqb, eqb-true, not-false}
 use Rattle.rules.specs.declared.Element.{Element}
 use Rattle.rules.specs.declared.Counts.{Counts}
 use Rattle.rules.specs.declared.Walk.{Walk}
 use Rattle.rules.specs.declared.Sum.{Sum}
 use Rattle.rules.specs.Values.{elementOf, part, elementAt, pointAt, scalarAt}
 use Rattle.rules.specs.Group.{L, elements, total}
-use Rattle.rules.specs.Numbers.{scalarBound, first}
+use Rattle.rules.specs.Numbers.{scalarBound}
 use Rattle.rules.specs.Rows.{notLong, widthOff, radixRow, radixRowOf}
-use Rattle.rules.specs.Windows.{successive, anyOver}
-use Rattle.rules.specs.Lists.{anyBig}
+use Rattle.rules.specs.Windows.{successive}
 use Rattle.rules.specs.Engines.{singleRefusal, single}
 use Rattle.rules.specs.Helpers.{sumDone, elementsFlat, Made, madeSuccessive}
 use Rattle.laws.specs.Conditions.{or-split, first-none}
 use Rattle.answer.proofs.Answers.{done-sum}
-use Rattle.room.proofs.Puts.{put-same}
-use Rattle.lent.proofs.Passed.{small, under}
+use Rattle.laws.proofs.Puts.{put-same}
+use Rattle.lent.proofs.Passed.{long-told, small, under}
 use Rattle.window.proofs.Flat.{elements-length}
-use Rattle.window.proofs.RadixSums.{radix16-walked-from}
+use Rattle.lookup.proofs.RadixSums.{radix16-walked-from}
 use Rattle.variable_base.specs.Walked.{walkedDown}
-
-long-told : {A : Type 0} (n : ℕ) (l : List A) → notLong n l ≡ false → length l ≡ n
-unfolding notLong
-long-told n l e = eqb-true (length l) n (not-false _ e)
 
 -- what it took
 pub counts-are : (x : Element) (c : Counts) (w l : List ℕ) (row : List ℤ) (k : Walk) → record { counts = c; limbs = w } ≡ madeSuccessive 8 x l → k ≡ walkedDown row w
@@ -42,19 +35,6 @@ counts-are x c w l row k m g = (
 )
 
 module _ (p s : List ℕ) where
-  -- the number by the conditions
-  pub point-short : (length p ≡ 4 → ⊥) → 1 ≡ singleRefusal p s
-  unfolding singleRefusal first notLong
-  point-short h = rw (ne-eqb (length p) 4 h)
-
-  pub scalar-short : length p ≡ 4 → (length s ≡ 32 → ⊥) → 1 ≡ singleRefusal p s
-  unfolding singleRefusal first notLong
-  scalar-short e h = rw (eq-eqb (length p) 4 e, ne-eqb (length s) 32 h)
-
-  pub answers : {b c : Bool} → length p ≡ 4 → length s ≡ 32 → anyBig s ≡ b → anyOver p ≡ c → cond b 6 (cond c 7 0) ≡ singleRefusal p s
-  unfolding singleRefusal first notLong
-  answers e f g h = rw (eq-eqb (length p) 4 e, eq-eqb (length s) 32 f, sym g, sym h)
-
   -- where all have passed
   module _ (z : singleRefusal p s ≡ 0) where
     record Ready : Type 0 where
@@ -69,8 +49,8 @@ module _ (p s : List ℕ) where
         let p₂ = first-none _ _ _ (λ q. omega arith) (p₁ .1) in
         let p₃ = first-none _ _ _ (λ q. omega arith) (p₂ .1) in
         let long = or-split (notLong 4 p) (notLong 32 s) (p₁ .0) in
-        let four : length p ≡ 4 = long-told 4 p (long .0) in
-        let bytes : length s ≡ 32 = long-told 32 s (long .1) in
+        let four : length p ≡ 4 = long-told p (long .0) in
+        let bytes : length s ≡ 32 = long-told s (long .1) in
         record { scalar = bytes; small-one = small s 0 (p₂ .0) (omega arith); member = under p 0 (p₃ .0) (omega arith) }
 
     -- the window, the row

@@ -1,5 +1,6 @@
 // Single base: a scalar times a point, radix 16.
 ghost use mathlib.Core.Path.{_≡_};
+ghost use Rattle.rules.specs.Lent.{was};
 ghost use Rattle.rules.specs.Engines.{singleRefusal, single};
 ghost use Rattle.variable_base.specs.Walked.{walkedDown};
 use rules::Sum;
@@ -7,9 +8,9 @@ use rules::Walk;
 
 // The last digit's entry, and from the place below it down four doublings and that digit's entry.
 fn walk(row: [i8; 64], window: &[u64]) -> Walk
-    ensures { λ r. ⌜ r ≡ walkedDown row (now (window .entry)) ⌝ }
+    ensures { λ r. ⌜ r ≡ walkedDown row (was window) ⌝ }
 {
-    let mut q = residue::plus(residue::identity(), window::looked_up(window, row[63]));
+    let mut q = residue::plus(residue::identity(), lookup::looked_up(window, row[63]));
     let mut additions: u64 = 1;
     let mut doublings: u64 = 0;
     let mut j: usize = 63;
@@ -17,7 +18,7 @@ fn walk(row: [i8; 64], window: &[u64]) -> Walk
         j -= 1;
         q = residue::plus(
             residue::mul_by_pow_2(q, 4),
-            window::looked_up(window, row[j]),
+            lookup::looked_up(window, row[j]),
         );
         additions += 1;
         doublings += 4;
@@ -31,33 +32,24 @@ fn walk(row: [i8; 64], window: &[u64]) -> Walk
 
 // The number that the call answers.
 fn refusal(point: &[u64], scalar: &[u8]) -> u8
-    ensures { λ r. ⌜ r ≡ singleRefusal (now (point .entry)) (now (scalar .entry)) ⌝ }
+    ensures { λ r. ⌜ r ≡ singleRefusal (was point) (was scalar) ⌝ }
 {
-    if point.len() != 4 {
+    if (point.len() != 4) | (scalar.len() != 32) {
         return 1;
     }
-    if scalar.len() != 32 {
-        return 1;
-    }
-    if lent::any_big(scalar) {
-        return 6;
-    }
-    if lent::any_over(point) {
-        return 7;
-    }
-    0
+    lent::plain_contents(scalar, point)
 }
 
 // Single base.
 pub fn mul(point: &[u64], scalar: &[u8]) -> Sum
-    ensures { λ r. ⌜ r ≡ single (now (point .entry)) (now (scalar .entry)) ⌝ }
+    ensures { λ r. ⌜ r ≡ single (was point) (was scalar) ⌝ }
 {
     let n = refusal(point, scalar);
     if n != 0 {
         return answer::refused_sum(n);
     }
     let mut window = [0u64; 32];
-    let made = window::make_successive(residue::element_at(point, 0), &mut window);
+    let made = window::make_successive(limbs::element_at(point, 0), &mut window);
     let row = scalar::radix_row(scalar, 4);
     let w = walk(row, &window);
     answer::sum(

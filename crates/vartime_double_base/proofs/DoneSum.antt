@@ -7,8 +7,7 @@ use native.Mathlib.Nat.{zero-add, mul-one}
 use native.Mathlib.Omega.{arith}
 use lib.ListN.{length, getD}
 use lib.IntN.{ℤ, pos}
-use lib.Dec.{lit<, eqb}
-use borrow.Author.Tests.{eqb-true, not-false}
+use lib.Dec.{lit<}
 use Rattle.rules.specs.declared.Element.{Element}
 use Rattle.rules.specs.declared.Counts.{Counts}
 use Rattle.rules.specs.declared.Walk.{Walk}
@@ -20,17 +19,16 @@ use Rattle.rules.specs.Rows.{digit, nafRow, notLong, widthOff, nafRowOf}
 use Rattle.rules.specs.Windows.{odd, limbsFlat, anyOver}
 use Rattle.rules.specs.Lists.{anyBig}
 use Rattle.rules.specs.Engines.{rowsDigit, doubleConditions, doubleRefusal, startPlace}
-use Rattle.rules.specs.Helpers.{elementsFlat, Made, madeOdd, walked}
+use Rattle.rules.specs.Helpers.{elementsFlat, Made, madeOdd, walked, madeOddIn}
 use Rattle.laws.specs.RadixRows.{scalar-has-row}
 use Rattle.laws.specs.Conditions.{or-split}
 use Rattle.laws.specs.Answers.{first-done}
 use Rattle.laws.specs.Weight.{weight-le}
-use Rattle.room.proofs.Puts.{put-same}
-use Rattle.lent.proofs.Passed.{small, under}
-use Rattle.window.proofs.Flat.{elements-length}
+use Rattle.laws.proofs.Puts.{put-same}
+use Rattle.lent.proofs.Passed.{long-told, small, under}
+use Rattle.window.proofs.Flat.{elements-length, read-ranged, odd-limbs}
 use Rattle.columns.proofs.Walked.{took}
 use Rattle.columns.proofs.Slots.{walked-filled}
-use Rattle.columns.proofs.Built.{filled-windows}
 use Rattle.vartime_double_base.proofs.Search.{above, start-inside}
 
 one-under : 1 < L
@@ -41,10 +39,6 @@ one-under = lit< tt
 single : (f : ℕ → ℕ) → total f 1 ≡ f 0
 unfolding total
 single f = zero-add (f 0)
-
-is-long : (n : ℕ) (l : List ℕ) → notLong n l ≡ false → length l ≡ n
-unfolding notLong
-is-long n l h = eqb-true (length l) n (not-false (eqb (length l) n) h)
 
 -- what making the window and walking have come to
 pub record Done (a p b : List ℕ) (made : Counts) (w : Walk) : Type 0 where
@@ -58,18 +52,18 @@ pub record Done (a p b : List ℕ) (made : Counts) (w : Walk) : Type 0 where
 module _ (a p b : List ℕ) (passed : doubleRefusal a p b ≡ 0) where
   told : (i : ℕ) → condition (doubleConditions a p b) i ≡ false
   unfolding doubleRefusal
-  told = first-done (doubleConditions a p b) (lit< tt, (lit< tt, (lit< tt, tt))) .0 passed
+  told = first-done (doubleConditions a p b) (omega arith) .0 passed
 
   long : ((length a ≡ 32) × (length p ≡ 4)) × (length b ≡ 32)
   unfolding condition
   long =
       let o = or-split (notLong 32 a || notLong 4 p) (notLong 32 b) (told 1) in
       let u = or-split (notLong 32 a) (notLong 4 p) (o .0) in
-      ((is-long 32 a (u .0), is-long 4 p (u .1)), is-long 32 b (o .1))
+      ((long-told a (u .0), long-told p (u .1)), long-told b (o .1))
 
   small-both : (anyBig a ≡ false) × (anyBig b ≡ false)
   unfolding condition
-  small-both = or-split (anyBig a) (anyBig b) (told 6)
+  small-both = let o = or-split (anyBig b) (anyBig a) (told 6) in (o .1, o .0)
 
   over : anyOver p ≡ false
   unfolding condition
@@ -115,12 +109,12 @@ module _ (a p b : List ℕ) (passed : doubleRefusal a p b ≡ 0) where
       {x : Element} (first : x ≡ elementAt p 0) (z : List ℕ) {ws : List ℕ} {made : Counts} (room : length z ≡ 32)
       (window : _≡_ {A = Made} (record { counts = made; limbs = ws }) (madeOdd 8 x z)) {w : Walk} (walk : w ≡ walked q ws q′ (limbsFlat (odd residues 1) 64) (i + 1)) where
     window-is : ws ≡ limbsFlat (odd residues (pointAt p 0)) 8
-    unfolding madeOdd flat
+    unfolding madeOddIn pointAt
     window-is =
         ap (λ (m : Made). m .limbs) window
         ∙ put-same _ z (room ∙ sym (elements-length (odd elements x) 8))
         ∙ ap (λ (e : Element). elementsFlat (odd elements e) 8) first
-        ∙ filled-windows p 8 1 range point-in
+        ∙ odd-limbs (elementAt p 0) (read-ranged p range 0) (point-in 0 (lit< tt)) 8
 
     rows-are : (startPlace q q′ ≡ startPlace r r′) × (walked q ws q′ (limbsFlat (odd residues 1) 64) n ≡ walked r ws r′ (limbsFlat (odd residues 1) 64) n)
     unfolding nafRowOf widthOff scalarAt part
@@ -135,7 +129,7 @@ module _ (a p b : List ℕ) (passed : doubleRefusal a p b ≡ 0) where
         ∙ walk-one
 
     counts-are : (made .additions ≡ 7) × (made .doublings ≡ 1)
-    unfolding madeOdd
+    unfolding madeOddIn
     counts-are = (ap (λ (m : Made). m .counts .additions) window, ap (λ (m : Made). m .counts .doublings) window)
 
     pub sum-done : Done a p b made w

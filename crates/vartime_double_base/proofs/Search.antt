@@ -2,22 +2,16 @@
 use mathlib.Core.Path.{_≡_, refl, sym, ap, _∙_}
 use mathlib.Core.Bool.{Bool, true, false, not}
 use mathlib.Core.List.{List}
-use Prim.Native.Nat.{ℕ, zero, suc, _+_, _-_, _<_}
+use Prim.Native.Nat.{ℕ, _+_, _-_, _<_}
 use native.Mathlib.Omega.{arith}
-use lib.IntN.{ℤ, pos, negsuc}
+use lib.IntN.{ℤ, pos}
 use lib.Dec.{eqb}
 use borrow.Author.Tests.{ne-eqb, eqb-true, not-false}
 use Rattle.rules.specs.Loops.{highest, nonzero}
 use Rattle.rules.specs.Rows.{digit}
 use Rattle.rules.specs.Engines.{startPlace}
+use Rattle.laws.specs.Weight.{nonzero-none}
 use Rattle.laws.specs.Loops.{highest-found, highest-next, highest-one, highest-lt, highest-above}
-
--- a digit that is 0, and one that is not
-is-none : (d : ℤ) → nonzero d ≡ 0 → d ≡ pos 0
-unfolding nonzero
-is-none (pos zero) h = refl
-is-none (pos (suc n)) h = absurd (omega arith)
-is-none (negsuc n) h = absurd (omega arith)
 
 module _ (a b : List ℤ) where
   -- whether either row is not 0 at a place
@@ -32,10 +26,10 @@ module _ (a b : List ℤ) where
   both j p q = rw (p, q) (unfold nonzero in refl)
 
   left : (j : ℕ) → (digit a j ≡ pos 0 → ⊥) → either j ≡ true
-  left j h = rw (ne-eqb (nonzero (digit a j) + nonzero (digit b j)) 0 (λ e. h (is-none (digit a j) (omega arith))))
+  left j h = rw (ne-eqb (nonzero (digit a j) + nonzero (digit b j)) 0 (λ e. h (nonzero-none (digit a j) (omega arith))))
 
   right : (j : ℕ) → (digit b j ≡ pos 0 → ⊥) → either j ≡ true
-  right j h = rw (ne-eqb (nonzero (digit a j) + nonzero (digit b j)) 0 (λ e. h (is-none (digit b j) (omega arith))))
+  right j h = rw (ne-eqb (nonzero (digit a j) + nonzero (digit b j)) 0 (λ e. h (nonzero-none (digit b j) (omega arith))))
 
   -- at place i of the search
   module _ (i : ℕ) (s : startPlace a b ≡ highest either (i + 1)) where
@@ -56,7 +50,7 @@ module _ (a b : List ℤ) where
   unfolding startPlace
   above j h p =
       let e : nonzero (digit a j) + nonzero (digit b j) ≡ 0 = eqb-true (nonzero (digit a j) + nonzero (digit b j)) 0 (not-false (eqb (nonzero (digit a j) + nonzero (digit b j)) 0) (highest-above either 256 j h p)) in
-      (is-none (digit a j) (omega arith), is-none (digit b j) (omega arith))
+      (nonzero-none (digit a j) (omega arith), nonzero-none (digit b j) (omega arith))
 
   pub start-inside : startPlace a b < 256
   unfolding startPlace

@@ -1,5 +1,6 @@
 // The basepoint's NAF window of width 8.
 ghost use mathlib.Core.Path.{_≡_};
+ghost use Rattle.rules.specs.Lent.{was};
 ghost use Rattle.rules.specs.Group.{residues};
 ghost use Rattle.rules.specs.Windows.{odd, limbsFlat};
 ghost use Rattle.rules.specs.Helpers.{walked};
@@ -267,7 +268,7 @@ const ODD_MULTIPLES_OF_BASEPOINT: [u64; 256] = [
 
 // The walk down the columns of one dynamic row, and of the basepoint's row on that window.
 pub(crate) fn walk(row: &[i8], window: &[u64], basepoint_row: &[i8], places: usize) -> Walk
-    ensures { λ r. ⌜ r ≡ walked (now (row .entry)) (now (window .entry)) (now («basepoint_row» .entry)) (limbsFlat (odd residues 1) 64) places ⌝ }
+    ensures { λ r. ⌜ r ≡ walked (was row) (was window) (was «basepoint_row») (limbsFlat (odd residues 1) 64) places ⌝ }
 {
     columns::walk(
         row,

@@ -1,21 +1,16 @@
 -- Windows as flat limbs: their entries, and the residues that their entries say.
 use mathlib.Core.Path.{_≡_, refl, sym, ap, _∙_}
-use mathlib.Core.Bool.{cond}
 use mathlib.Core.List.{List}
-use Prim.Native.Nat.{ℕ, zero, suc, _+_, _*_, _<_, _≤_}
+use Prim.Native.Nat.{ℕ, zero, suc, _+_, _*_, _<_}
 use native.Mathlib.Nat.{add-zero}
 use native.Mathlib.Omega.{arith}
 use lib.ListN.{length, getD}
-use lib.IntN.{ℤ, natAbs}
-use lib.Dec.{ltb}
-use borrow.Author.Tests.{lt-ltb}
 use Rattle.rules.specs.declared.Element.{Element}
 use Rattle.rules.specs.Values.{limb, limbsOf, valueOf, elementOf, elementAt, pointAt}
 use Rattle.rules.specs.Group.{L, elements, residues}
-use Rattle.rules.specs.Windows.{stepped, successive, odd, selected, limbsFlat}
-use Rattle.rules.specs.Helpers.{elementsFlat, lookedUp}
+use Rattle.rules.specs.Windows.{stepped, successive, odd, limbsFlat}
+use Rattle.rules.specs.Helpers.{elementsFlat, flatIn}
 use Rattle.laws.specs.Parts.{part-at, flat-length, flat-part, flat-ext}
-use Rattle.laws.specs.Windows.{selected-ext}
 use Rattle.laws.specs.Carried.{stepped-carry}
 use Rattle.limbs.proofs.Elements.{same, Ranged, whole, limbs-of}
 use Rattle.residue.proofs.Members.{Member, value-in, added-in, added-value, added-ranged}
@@ -29,11 +24,11 @@ read-ranged w h k = record { r0 = h _; r1 = h _; r2 = h _; r3 = h _ }
 -- n elements, whatever they are
 module _ (t : ℕ → Element) (n : ℕ) where
   pub elements-length : length (elementsFlat t n) ≡ 4 * n
-  unfolding elementsFlat
+  unfolding flatIn
   elements-length = flat-length 4 (λ k. limbsOf (t k)) n (λ i p. refl)
 
   limb-at : (k j : ℕ) → k < n → j < 4 → getD (elementsFlat t n) (4 * k + j) 0 ≡ getD (limbsOf (t k)) j 0
-  unfolding elementsFlat
+  unfolding flatIn
   limb-at k j h g =
       sym (part-at 4 k (elementsFlat t n) j 0 g) ∙ ap (λ l. getD l j 0) (flat-part 4 (λ k. limbsOf (t k)) n k (λ i p. refl) h)
 
@@ -44,20 +39,14 @@ module _ (t : ℕ → Element) (n : ℕ) where
       let first = ap (λ (i : ℕ). getD (elementsFlat t n) i 0) (sym (add-zero (4 * k))) ∙ limb-at k 0 h (omega arith) in
       same first (limb-at k 1 h (omega arith)) (limb-at k 2 h (omega arith)) (limb-at k 3 h (omega arith))
 
-  -- radix lookup among them
-  pub elements-lookedUp : (d : ℤ) → natAbs d ≤ n → lookedUp n (elementsFlat t n) d ≡ selected elements t d
-  unfolding lookedUp
-  elements-lookedUp d h =
-      selected-ext elements (λ k. cond (ltb k n) (elementAt (elementsFlat t n) k) (elementOf 0)) t n (λ k p. rw (lt-ltb k n p) (elements-at k p)) d h
-
 pub elements-ext : {t u : ℕ → Element} (n : ℕ) → ((k : ℕ) → k < n → t k ≡ u k) → elementsFlat t n ≡ elementsFlat u n
-unfolding elementsFlat
+unfolding flatIn
 elements-ext n h = flat-ext n (λ k p. ap (λ e. limbsOf e) (h k p))
 
 -- n residues
 module _ (t : ℕ → ℕ) (n : ℕ) where
   pub limbs-elements : limbsFlat t n ≡ elementsFlat (λ k. elementOf (t k)) n
-  unfolding limbsFlat elementsFlat
+  unfolding limbsFlat flatIn
   limbs-elements = flat-ext n (λ k p. limbs-of (t k))
 
   pub limbs-length : length (limbsFlat t n) ≡ 4 * n

@@ -1,6 +1,2 @@
 pub mod Flat
-pub mod ReadBack
-pub mod RadixSums
-mod Stepping
 mod Tables
-mod Lookups

@@ -11,10 +11,10 @@ use Rattle.rules.specs.Values.{limb, elementAt, pointAt}
 use Rattle.rules.specs.Group.{elements, residues}
 use Rattle.rules.specs.Numbers.{given, window8Answer, window64Answer}
 use Rattle.rules.specs.Windows.{successive, odd, limbsFlat, pointRefusal}
-use Rattle.rules.specs.Helpers.{elementsFlat, madeSuccessive, madeOdd}
+use Rattle.rules.specs.Helpers.{elementsFlat, madeSuccessive, madeOdd, madeOddIn}
 use Rattle.residue.proofs.Members.{Member}
 use Rattle.residue.proofs.Answers.{point-member}
-use Rattle.room.proofs.Puts.{put-same}
+use Rattle.laws.proofs.Puts.{put-same}
 use Rattle.window.proofs.Flat.{read-ranged, elements-length, successive-limbs, odd-limbs}
 
 -- the window of a lent point that passed, put into zeros of its length
@@ -32,7 +32,7 @@ module _ (p : List ℕ) (limbs : (i : ℕ) → getD p i 0 < limb) (e : pointRefu
         ∙ successive-limbs (elementAt p 0) (read-ranged p limbs 0) member n
 
     pub odd-window : madeOdd n x z .limbs ≡ limbsFlat (odd residues (pointAt p 0)) n
-    unfolding madeOdd pointAt
+    unfolding madeOddIn pointAt
     odd-window =
         put-same _ z (l ∙ sym (elements-length (odd elements x) n))
         ∙ ap (λ (q : Element). elementsFlat (odd elements q) n) h

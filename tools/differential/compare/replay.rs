@@ -5,10 +5,10 @@ use std::process::{Command, Stdio};
 
 use reading::case::Case;
 
-/// The cases as they are recorded.
+/// The cases as they are recorded, lists in the shortest of the three modes.
 pub fn recorded(cases: &[Case]) -> Vec<u8> {
     let mut input = Vec::new();
-    cases.iter().for_each(|case| case.write(&mut input));
+    cases.iter().for_each(|case| case.write(&mut input, true));
     input
 }
 
@@ -22,7 +22,15 @@ pub fn malformed(cases: &[Case]) -> Vec<Vec<u8>> {
         vec![255],
         vec![6],
         vec![6, 32, 0, 0],
+        vec![6, 1, 0, 0, 0, 3, 0],
+        vec![6, 1, 0, 0, 0, 255, 0],
         vec![6, 1, 0, 0, 0, 2, 0],
+        vec![6, 1, 0, 0, 0, 2, 0, 1, 0, 0, 0, 1, 0, 0, 0, 7],
+        vec![6, 1, 0, 0, 0, 2, 0, 1, 0, 0, 0, 0, 0, 0, 0],
+        vec![6, 1, 0, 0, 0, 2, 0, 2, 0, 0, 0, 0, 0, 0, 0, 7, 0, 0, 0, 0, 7],
+        vec![6, 2, 0, 0, 0, 2, 0, 2, 0, 0, 0, 1, 0, 0, 0, 7, 0, 0, 0, 0, 7],
+        vec![6, 0, 0, 0, 0, 2, 0, 0xff, 0xff, 0xff, 0xff],
+        vec![3, 1, 0, 0, 0, 2, 9, 9, 9, 9, 9, 9, 9, 9, 1, 0, 0, 0, 0, 0, 0, 1, 7, 7, 7, 7, 7, 7, 7, 7],
         vec![6, 2, 0, 0, 0, 0, 0],
         vec![6, 0x41, 0x80, 0, 0, 1, 0],
         vec![6, 0xff, 0xff, 0xff, 0xff, 1, 0],

@@ -37,6 +37,7 @@ struct Run {
     sodium: Option<Sodium>,
     calls: BTreeMap<u8, Counts>,
     names: BTreeMap<&'static str, u64>,
+    cases: Vec<String>,
     multi: u64,
     seen: usize,
     differ: u64,
@@ -68,9 +69,10 @@ pub fn run(n: usize, seed: u64, program: Option<String>) -> bool {
     run.differ == 0
 }
 
-/// Compares the cases of a list without the library; true where none differ.
-pub fn agree(cases: &[Case]) -> bool {
+/// Compares the cases of a list, each with its name, without the library; true where none differ.
+pub fn agree(cases: &[Case], names: Vec<String>) -> bool {
     let mut run = Run::new(None);
+    run.cases = names;
     run.chunk(cases);
     run.report(cases.len());
     run.differ == 0
@@ -85,6 +87,7 @@ impl Run {
             sodium: Sodium::find(),
             calls: BTreeMap::new(),
             names: BTreeMap::new(),
+            cases: Vec::new(),
             multi: 0,
             seen: 0,
             differ: 0,
@@ -101,7 +104,8 @@ impl Run {
     fn say(&mut self, what: String) {
         self.differ += 1;
         if self.differ <= 20 {
-            println!("DIFFERS: {what}");
+            let name = self.seen.checked_sub(1).and_then(|i| self.cases.get(i)).map_or("", String::as_str);
+            println!("DIFFERS: {name} {what}");
         }
     }
 
@@ -258,6 +262,6 @@ fn cut(text: &str) -> String {
 /// The case as it is recorded, in hex.
 fn shown(case: &Case) -> String {
     let mut bytes = Vec::new();
-    case.write(&mut bytes);
+    case.write(&mut bytes, true);
     cut(&reading::answer::hex(&bytes))
 }

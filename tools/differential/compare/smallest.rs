@@ -1,5 +1,6 @@
 //! The smallest input of every difference in docs/DIFFERENCES.md, run: what 01 says, what either build of the Rust does.
 
+use std::panic::{AssertUnwindSafe, catch_unwind};
 use std::sync::mpsc;
 use std::time::Duration;
 
@@ -75,6 +76,8 @@ fn engines(side: &Side) {
         "pippenger, scalar 1 and points 1, absent",
         side.run_optional(|| (side.pippenger)(&[one], &[Some(ONE), None])),
     );
+    show("pippenger, no scalar and an absent point", side.run_optional(|| (side.pippenger)(&[], &[None])));
+    show("straus optional, no scalar and an absent point", side.run_optional(|| (side.straus_optional)(&[], &[None])));
     show("straus, 1025 pairs (1, 1)", side.run(|| (side.straus)(&vec![one; 1025], &vec![ONE; 1025])));
     show("mixed, a static scalar without a table", side.run_optional(|| (side.mixed)(&[], &[one], &[], &[])));
     show("mixed, a dynamic scalar without a point", side.run_optional(|| (side.mixed)(&[], &[], &[one], &[])));
@@ -124,13 +127,21 @@ fn recodings(side: &Side) {
     }
     println!("radix 16 of 2^255: {}", row(side.run(|| (side.as_radix_16)(bytes(&TOP)).to_vec())));
     println!("naf of 2^256-1, width 5: {}", row(side.run(|| (side.non_adjacent_form)([255; 32], 5).to_vec())));
-    let naf = side.non_adjacent_form;
+    for w in [17, 32, 63, 64, 65, 128, usize::MAX] {
+        let (naf, radix) = (side.non_adjacent_form, side.as_radix_2w);
+        println!("naf of 2, width {w}: {}", in_time(move || naf(bytes(&[2, 0, 0, 0]), w).to_vec()));
+        println!("radix of 2, width {w}: {}", in_time(move || radix(bytes(&[2, 0, 0, 0]), w).to_vec()));
+    }
+}
+
+/// A row by its digits that are not 0, where the call ends in time.
+fn in_time(call: impl FnOnce() -> Vec<i8> + Send + 'static) -> String {
     let (sender, receiver) = mpsc::channel();
-    std::thread::spawn(move || sender.send(std::panic::catch_unwind(|| naf(bytes(&[2, 0, 0, 0]), usize::MAX)).is_ok()));
+    std::thread::spawn(move || sender.send(catch_unwind(AssertUnwindSafe(call))));
     match receiver.recv_timeout(Duration::from_secs(3)) {
-        Ok(true) => println!("naf of 2, width 2^64-1: ends"),
-        Ok(false) => println!("naf of 2, width 2^64-1: panic"),
-        Err(_) => println!("naf of 2, width 2^64-1: has not ended after 3 s"),
+        Ok(Ok(digits)) => row(End::Done(digits, 0, 0)),
+        Ok(Err(_)) => "panic".into(),
+        Err(_) => "has not ended after 3 s".into(),
     }
 }
 

@@ -1,5 +1,8 @@
 //! Cases as docs/REPLAY.md records them.
 
+use std::collections::HashMap;
+use std::hash::Hash;
+
 use crate::number::Limbs;
 
 #[derive(Clone, Debug, PartialEq)]
@@ -29,14 +32,14 @@ const FORMS: [(&str, &str); 26] = [
     ("scalar::non_adjacent_form", "bn"),
     ("scalar::as_radix_16", "b"),
     ("scalar::as_radix_2w", "bn"),
-    ("scalar::read_naf", "dn"),
-    ("scalar::read_radix", "dn"),
+    ("reader::read_naf", "dn"),
+    ("reader::read_radix", "dn"),
     ("window::lookup_table", "l"),
     ("window::naf_lookup_table5", "l"),
     ("window::naf_lookup_table8", "l"),
-    ("window::select", "lx"),
-    ("window::select_naf5", "lx"),
-    ("window::select_naf8", "lx"),
+    ("lookup::select", "lx"),
+    ("lookup::select_naf5", "lx"),
+    ("lookup::select_naf8", "lx"),
     ("variable_base::mul", "lb"),
     ("vartime_double_base::mul", "blb"),
     ("straus::multiscalar_mul", "bldl"),
@@ -52,6 +55,12 @@ const FORMS: [(&str, &str); 26] = [
 
 pub fn name(code: u8) -> &'static str {
     FORMS[code as usize - 1].0
+}
+
+/// The code of a call by its name, and what it takes.
+pub fn form(name: &str) -> Option<(u8, &'static str)> {
+    let at = FORMS.iter().position(|(n, _)| *n == name)?;
+    Some((at as u8 + 1, FORMS[at].1))
 }
 
 impl Case {
@@ -85,14 +94,14 @@ impl Case {
         *p
     }
 
-    /// The case as recorded; a list of one value is written once.
-    pub fn write(&self, out: &mut Vec<u8>) {
+    /// The case as recorded; a list of one value is written once. In short, lists may also be written by their exceptions.
+    pub fn write(&self, out: &mut Vec<u8>, short: bool) {
         out.push(self.code);
         for argument in &self.arguments {
             match argument {
-                Bytes(list) => write_list(out, list, |x| vec![x]),
-                Digits(list) => write_list(out, list, |x| vec![x as u8]),
-                Limbs(list) => write_list(out, list, |x| x.to_le_bytes().to_vec()),
+                Bytes(list) => write_list(out, list, short, |x| vec![x]),
+                Digits(list) => write_list(out, list, short, |x| vec![x as u8]),
+                Limbs(list) => write_list(out, list, short, |x| x.to_le_bytes().to_vec()),
                 Number(n) => out.extend(n.to_le_bytes()),
                 Digit(d) => out.push(*d as u8),
                 Point(p, behind) => {
@@ -104,12 +113,36 @@ impl Case {
     }
 }
 
-fn write_list<T: Copy + PartialEq>(out: &mut Vec<u8>, list: &[T], bytes: impl Fn(T) -> Vec<u8>) {
+fn write_list<T: Copy + Eq + Hash>(out: &mut Vec<u8>, list: &[T], short: bool, bytes: impl Fn(T) -> Vec<u8>) {
     out.extend((list.len() as u32).to_le_bytes());
     let repeated = list.len() > 1 && list.iter().all(|x| *x == list[0]);
+    if short && !repeated && write_exceptions(out, list, &bytes) {
+        return;
+    }
     out.push(repeated as u8);
     let written = if repeated { &list[..1] } else { list };
     written.iter().for_each(|x| out.extend(bytes(*x)));
+}
+
+/// Mode 2 where it is shorter: the commonest element, and (place, element) for each other.
+fn write_exceptions<T: Copy + Eq + Hash>(out: &mut Vec<u8>, list: &[T], bytes: &impl Fn(T) -> Vec<u8>) -> bool {
+    let mut times = HashMap::new();
+    list.iter().for_each(|x| *times.entry(*x).or_insert(0usize) += 1);
+    let Some(most) = times.values().max() else { return false };
+    let base = *list.iter().find(|x| times[x] == *most).unwrap();
+    let size = bytes(base).len();
+    let others = list.len() - most;
+    if size + 4 + others * (size + 4) >= list.len() * size {
+        return false;
+    }
+    out.push(2);
+    out.extend(bytes(base));
+    out.extend((others as u32).to_le_bytes());
+    for (i, x) in list.iter().enumerate().filter(|(_, x)| **x != base) {
+        out.extend((i as u32).to_le_bytes());
+        out.extend(bytes(*x));
+    }
+    true
 }
 
 /// Reads cases one after another; the second part says which one is malformed.
@@ -161,8 +194,29 @@ fn read_list<T: Clone>(input: &mut &[u8], most: usize, size: usize, element: imp
     match mode {
         0 => Some(take(input, n * size)?.chunks(size).map(element).collect()),
         1 => Some(vec![element(take(input, size)?); n]),
+        2 => {
+            let list = vec![element(take(input, size)?); n];
+            read_exceptions(input, list, size, element)
+        }
         _ => None,
     }
+}
+
+/// Exceptions at places of the list, rising from one to the next.
+fn read_exceptions<T>(
+    input: &mut &[u8],
+    mut list: Vec<T>,
+    size: usize,
+    element: impl Fn(&[u8]) -> T,
+) -> Option<Vec<T>> {
+    let number = |input: &mut &[u8]| Some(u32::from_le_bytes(take(input, 4)?.try_into().unwrap()) as usize);
+    let mut from = 0;
+    for _ in 0..number(input)? {
+        let at = number(input)?;
+        *list.get_mut(at).filter(|_| at >= from)? = element(take(input, size)?);
+        from = at + 1;
+    }
+    Some(list)
 }
 
 fn take<'a>(input: &mut &'a [u8], n: usize) -> Option<&'a [u8]> {

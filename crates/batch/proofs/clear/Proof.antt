@@ -1,7 +1,7 @@
 -- It is the edit with scalar 0 and point 0.
 use mathlib.Core.Path.{ap, _∙_}
 use Rattle.rules.specs.declared.OptionalPoint.the-variants.{Present}
-use Rattle.rules.specs.Batch.{set, clear}
+use Rattle.rules.specs.Batch.{setSlot, clearSlot}
 use borrow.Author.Needs.{needs}
 use Rattle.batch.proofs.clear.Statement.{statement}
 use Rattle.batch.proofs.clear.Tie as tie
@@ -22,10 +22,10 @@ same-length-2 : tie.Need-same-length-2
 same-length-2 c = search needs
 
 returns : tie.Need-returns
-unfolding clear
+unfolding clearSlot
 returns c =
     let s = c .before .before .before in
-    s .set .ensures ∙ ap (set _ _ _) (ap Present (s .before .before .before .before .identity .ensures))
+    s .set .ensures ∙ ap (setSlot _ _ _) (ap Present (s .before .before .before .before .identity .ensures))
 
 pub clear-spec : {M : Type 1} → statement M
 clear-spec =

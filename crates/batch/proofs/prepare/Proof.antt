@@ -1,4 +1,4 @@
--- Refused by its number, else what filling every slot leaves.
+-- Refused by its number, else what laying every slot leaves.
 use mathlib.Core.Path.{sym, _∙_}
 use native.Mathlib.Omega.{arith}
 use Rattle.rules.specs.Batch.{prepare}
@@ -17,8 +17,11 @@ returns : tie.Need-returns
 unfolding prepare
 returns c = refused-is (c .before .if1 .taken) _ _ _ _ _ _ (c .before .before .prepare-refusal .ensures) (c .refused-counted .ensures)
 
-fill-requires : tie.Need-fill-requires
-fill-requires c κs = search needs
+rows-requires : tie.Need-rows-requires
+rows-requires c κs = search needs
+
+windows-requires : tie.Need-windows-requires
+windows-requires c κs = search needs
 
 counted-requires : tie.Need-counted-requires
 counted-requires c κs = search needs
@@ -31,9 +34,11 @@ same-length-2 c = search needs
 
 returns-2 : tie.Need-returns-2
 returns-2 c =
-    let s = c .before .before .before .before in
-    let t = s .before .before .before in
-    prepare-is _ _ _ _ _ _ _ _ _ (λ k. omega (arith, t .before .before .before .before .shared-slice-known2 .given k)) (sym (t .before .prepare-refusal .ensures) ∙ t .if1 .left) (s .fill .ensures) (c .counted .ensures)
+    let w = c .before .before .before in
+    let r = w .before .before .before in
+    let t = r .before .before in
+    let k = t .before .before in
+    prepare-is _ _ _ _ _ _ _ _ _ (λ i. omega (arith, k .before .before .shared-slice-known2 .given i)) (sym (t .before .prepare-refusal .ensures) ∙ t .if1 .left) (r .rows .ensures) (w .windows .ensures) (c .counted .ensures)
 
 pub prepare-spec : {M : Type 1} → statement M
 prepare-spec =
@@ -42,7 +47,8 @@ prepare-spec =
     prepare-refusal-requires
     refused-counted-requires
     returns
-    fill-requires
+    rows-requires
+    windows-requires
     counted-requires
     same-length
     same-length-2

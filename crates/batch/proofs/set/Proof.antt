@@ -1,7 +1,7 @@
 -- Refused by its number before the point, or by 8; else what setting the point leaves.
 use mathlib.Core.Path.{sym, ap, _∙_}
 use native.Mathlib.Omega.{arith}
-use Rattle.rules.specs.Batch.{set, setRefusal}
+use Rattle.rules.specs.Batch.{setSlot, setRefusal}
 use Rattle.batch.proofs.Batches.{refused-is, edge-refused, absent-is}
 use borrow.Author.Needs.{needs}
 use Rattle.batch.proofs.set.Statement.{statement}
@@ -14,7 +14,7 @@ refused-counted-requires : tie.Need-refused-counted-requires
 refused-counted-requires c κs = search needs
 
 returns : tie.Need-returns
-unfolding set
+unfolding setSlot
 returns c = refused-is (c .before .if1 .taken) _ _ _ _ _ _ (edge-refused _ _ _ _ _ _ (c .before .before .set-refusal .ensures) (c .before .if1 .taken)) (c .refused-counted .ensures)
 
 enum-known-point : tie.Need-enum-known-point
@@ -27,7 +27,7 @@ refused-counted-requires-2 : tie.Need-refused-counted-requires-2
 refused-counted-requires-2 c κs = search needs
 
 returns-2 : tie.Need-returns-2
-unfolding set
+unfolding setSlot
 returns-2 c =
     let t = c .before .before .before in
     refused-is (λ z. omega arith) _ _ _ _ _ _ (absent-is _ _ _ _ (sym (t .before .set-refusal .ensures) ∙ t .if1 .left) ∙ ap (setRefusal _ _ _ _) (sym (c .before .enum-told .given .1))) (c .refused-counted2 .ensures)
@@ -44,7 +44,7 @@ same-length-2 c = search needs
 returns-3 : tie.Need-returns-3
 returns-3 c =
     let s = c .before .before .before in
-    s .set-point .ensures ∙ ap (set _ _ _) (sym (s .before .before .before .before .point .given .1))
+    s .set-point .ensures ∙ ap (setSlot _ _ _) (sym (s .before .before .before .before .point .given .1))
 
 pub set-spec : {M : Type 1} → statement M
 set-spec =

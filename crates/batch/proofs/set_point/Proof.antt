@@ -1,12 +1,17 @@
 -- Refused by 7, else what filling the slot's parts leaves.
 use mathlib.Core.Path.{sym, _∙_}
 use native.Mathlib.Omega.{arith}
-use Rattle.rules.specs.Batch.{set}
+use lib.ListN.{length}
+use Rattle.rules.specs.Batch.{setSlot}
 use Rattle.limbs.proofs.Elements.{Ranged}
-use Rattle.batch.proofs.Batches.{refused-is, edge-inside, over-is, set-is}
+use Rattle.batch.proofs.Batches.{Inside, refused-is, edge-inside, over-is, set-is}
 use borrow.Author.Needs.{needs}
 use Rattle.batch.proofs.set_point.Statement.{statement}
 use Rattle.batch.proofs.set_point.Tie as tie
+
+-- where the point is below L, the slot lies in memory
+inside : (c : tie.Else1) → let a = c .before .before .before .before .args in Inside (length (a .digits .now)) (length (a .windows .now)) (a .slot)
+inside c = edge-inside _ _ _ _ (c .before .before .before .before .pre)
 
 over-requires : tie.Need-over-requires
 over-requires c κs = search needs
@@ -15,20 +20,20 @@ refused-counted-requires : tie.Need-refused-counted-requires
 refused-counted-requires c κs = search needs
 
 returns : tie.Need-returns
-unfolding set
+unfolding setSlot
 returns c = refused-is (λ z. omega arith) _ _ _ _ _ _ (over-is _ _ _ _ (c .before .before .before .before .before .pre) _ (sym (c .before .before .over .ensures) ∙ c .before .if1 .taken)) (c .refused-counted .ensures)
 
 mul-a : tie.Need-mul-a
-mul-a c = omega (arith, edge-inside _ _ _ _ (c .before .before .before .before .pre) .few)
+mul-a c = omega (arith, inside c .few)
 
 add-e : tie.Need-add-e
-add-e c = omega (arith, edge-inside _ _ _ _ (c .before .before .before .before .pre) .few)
+add-e c = omega (arith, inside c .few)
 
 mul-b : tie.Need-mul-b
-mul-b c = omega (arith, edge-inside _ _ _ _ (c .before .before .before .before .pre) .few)
+mul-b c = omega (arith, inside c .few)
 
 add-f : tie.Need-add-f
-add-f c = omega (arith, edge-inside _ _ _ _ (c .before .before .before .before .pre) .few)
+add-f c = omega (arith, inside c .few)
 
 sub-fill-slot : tie.Need-sub-fill-slot
 sub-fill-slot c = search needs
@@ -37,10 +42,10 @@ part-fill-slot-start : tie.Need-part-fill-slot-start
 part-fill-slot-start c = search needs
 
 part-fill-slot-end : tie.Need-part-fill-slot-end
-part-fill-slot-end c = edge-inside _ _ _ _ (c .before .before .before .before .pre) .digits-fit
+part-fill-slot-end c = inside c .digits-fit
 
 mul-fill-slot : tie.Need-mul-fill-slot
-mul-fill-slot c = omega (arith, edge-inside _ _ _ _ (c .before .before .before .before .before .pre) .few)
+mul-fill-slot c = omega (arith, inside (c .before) .few)
 
 sub-fill-slot-2 : tie.Need-sub-fill-slot-2
 sub-fill-slot-2 c = search needs
@@ -49,7 +54,7 @@ part-fill-slot-start-2 : tie.Need-part-fill-slot-start-2
 part-fill-slot-start-2 c = search needs
 
 part-fill-slot-end-2 : tie.Need-part-fill-slot-end-2
-part-fill-slot-end-2 c = edge-inside _ _ _ _ (c .before .before .before .before .before .pre) .windows-fit
+part-fill-slot-end-2 c = inside (c .before) .windows-fit
 
 fill-slot-requires : tie.Need-fill-slot-requires
 fill-slot-requires c κs = search needs

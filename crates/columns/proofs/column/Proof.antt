@@ -3,13 +3,16 @@ use mathlib.Core.Path.{_≡_, ap, _∙_}
 use Prim.Native.Nat.{ℕ, _<_, _≤_, _-_}
 use native.Mathlib.Omega.{arith}
 use lib.ListN.{length}
-use Rattle.columns.specs.Running.{passed}
-use Rattle.columns.proofs.Turns.{room, passed-none, passed-more, passed-fits, row-long}
+use Rattle.rules.specs.Values.{elementAt}
+use Rattle.rules.specs.Group.{elements}
+use Rattle.rules.specs.Helpers.{windowEntry}
+use Rattle.laws.specs.Running.{passed, room, passed-none, passed-more, passed-fits, row-long}
+use Rattle.columns.specs.Running.{run}
 use Rattle.columns.proofs.column.Statement.{statement}
 use Rattle.columns.proofs.column.Tie as tie
 
 abbrev Inv-loop : tie.InvT-loop
-Inv-loop digits windows unit m j r₀ i₀ r i = (i ≤ m) × (r ≡ passed digits windows unit i j r₀)
+Inv-loop digits windows unit m j r₀ i₀ r i = (i ≤ m) × (run r ≡ passed elements digits (windowEntry unit windows) i j (run r₀))
 
 abbrev μ-loop : tie.MeasureT-loop
 μ-loop digits windows unit m j r₀ i₀ r i = m - i
@@ -46,9 +49,10 @@ part-moved-end c = omega arith
 
 mul-moved : tie.Need-mul-moved Inv-loop μ-loop
 mul-moved c =
-    let s = c .before .before .before .before in
+    let l = c .before .before in
+    let s = l .before .before in
     let a = s .args in
-    let h = room (a .unit) (c .before .before .loop .i) (a .m) (length (a .windows .now)) (omega arith) (s .pre .windows) in
+    let h = room (a .unit) (l .loop .i) (a .m) (length (a .windows .now)) (omega arith) (s .pre .windows) in
     omega arith
 
 sub-moved-2 : tie.Need-sub-moved-2 Inv-loop μ-loop
@@ -59,9 +63,10 @@ part-moved-start-2 c = omega arith
 
 part-moved-end-2 : tie.Need-part-moved-end-2 Inv-loop μ-loop
 part-moved-end-2 c =
-    let s = c .before .before .before .before in
+    let l = c .before .before in
+    let s = l .before .before in
     let a = s .args in
-    room (a .unit) (c .before .before .loop .i) (a .m) (length (a .windows .now)) (omega arith) (s .pre .windows)
+    room (a .unit) (l .loop .i) (a .m) (length (a .windows .now)) (omega arith) (s .pre .windows)
 
 moved-requires : tie.Need-moved-requires Inv-loop μ-loop
 moved-requires c κs =
@@ -69,8 +74,8 @@ moved-requires c κs =
     let s = t .before .before in
     let a = s .args in
     let p : t .loop .i < a .m = omega arith in (
-      row-long (a .digits .now) (a .windows .now) (a .unit) (a .j) (a .q) (t .loop .i) (a .m) p (s .pre),
-      passed-fits (a .digits .now) (a .windows .now) (a .unit) (a .j) (a .q) (t .loop .i) (a .m) (t .loop .r) p (s .pre) (t .loop .inv .1),
+      row-long elements elementAt (a .digits .now) (a .windows .now) (a .unit) (a .j) (run (a .q)) (t .loop .i) (a .m) p (s .pre),
+      passed-fits elements elementAt (a .digits .now) (a .windows .now) (a .unit) (a .j) (run (a .q)) (t .loop .i) (a .m) (run (t .loop .r)) p (s .pre) (t .loop .inv .1),
     )
 
 add-i : tie.Need-add-i Inv-loop μ-loop
@@ -81,15 +86,16 @@ loop-less c = omega arith
 
 loop-again : tie.Need-loop-again Inv-loop μ-loop
 loop-again c =
-    let s = c .before .before .before .before in
-    (omega arith, passed-more _ _ _ _ _ _ _ _ (s .loop .inv .1) (c .moved .ensures))
+    let m = c .before .before in
+    let s = m .before .before in
+    (omega arith, passed-more elements elementAt _ _ _ _ _ _ _ _ (s .loop .inv .1) (c .moved .ensures))
 
 returns : tie.Need-returns Inv-loop μ-loop
 returns c =
     let s = c .before .before .before in
     let a = s .args in
     let e : c .before .loop .i ≡ a .m = omega arith in
-    c .before .loop .inv .1 ∙ ap (λ (i : ℕ). passed (a .digits .now) (a .windows .now) (a .unit) i (a .j) (a .q)) e
+    c .before .loop .inv .1 ∙ ap (λ (i : ℕ). passed elements (a .digits .now) (windowEntry (a .unit) (a .windows .now)) i (a .j) (run (a .q))) e
 
 pub column-spec : {M : Type 1} → statement M
 column-spec =

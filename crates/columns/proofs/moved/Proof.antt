@@ -1,9 +1,12 @@
 -- The digit's test and sign pick the step that the definition makes.
 use borrow.Author.Needs.{needs}
 use native.Mathlib.Omega.{arith}
+use Rattle.rules.specs.Values.{elementAt}
+use Rattle.rules.specs.Group.{elements}
 use Rattle.rules.specs.Rows.{digit}
+use Rattle.laws.specs.Weight.{nonzero-not}
 use Rattle.digit.proofs.Machine.{not-zero}
-use Rattle.columns.proofs.Steps.{nonzero-not, onward-zero, onward-below, onward-above}
+use Rattle.laws.proofs.Steps.{onward-zero, onward-below, onward-above}
 use Rattle.columns.proofs.moved.Statement.{statement}
 use Rattle.columns.proofs.moved.Tie as tie
 
@@ -11,7 +14,7 @@ shared-slice-copy-out-d : tie.Need-shared-slice-copy-out-d
 shared-slice-copy-out-d c = search needs
 
 returns : tie.Need-returns
-returns c = onward-zero _ (record { sfits = c .before .d .given }) _ _ (c .if1 .taken)
+returns c = onward-zero elements elementAt _ (record { sfits = c .before .d .given }) _ _ (c .if1 .taken)
 
 odd-entry-requires : tie.Need-odd-entry-requires
 odd-entry-requires c κs = search needs
@@ -21,7 +24,8 @@ element-at-requires c κs = search needs
 
 add-n : tie.Need-add-n
 add-n c =
-    let s = c .before .before .before .before in
+    let t = c .before .before in
+    let s = t .before .before in
     let a = s .before .before .before .args in
     omega (arith, nonzero-not (digit (a .row .now) (a .j)) (not-zero _ (s .if1 .left)))
 
@@ -30,8 +34,9 @@ minus-requires c κs = search needs
 
 returns-2 : tie.Need-returns-2
 returns-2 c =
-    let s = c .before .before .before .before in
-    onward-below _ (record { sfits = s .before .before .before .d .given }) _ _ _ _ _ (s .before .odd-entry .ensures) (s .element-at .ensures)
+    let t = c .before .before in
+    let s = t .before .before in
+    onward-below elements elementAt _ (record { sfits = s .before .before .before .d .given }) _ _ _ _ _ (s .before .odd-entry .ensures) (s .element-at .ensures)
     (c .before .if2 .taken)
     (c .minus .ensures)
 
@@ -40,8 +45,9 @@ plus-requires c κs = search needs
 
 returns-3 : tie.Need-returns-3
 returns-3 c =
-    let s = c .before .before .before .before in
-    onward-above _ (record { sfits = s .before .before .before .d .given }) _ _ _ _ _ (s .before .odd-entry .ensures) (s .element-at .ensures)
+    let t = c .before .before in
+    let s = t .before .before in
+    onward-above elements elementAt _ (record { sfits = s .before .before .before .d .given }) _ _ _ _ _ (s .before .odd-entry .ensures) (s .element-at .ensures)
     (s .before .before .if1 .left)
     (c .before .if2 .left)
     (c .plus .ensures)

@@ -5,14 +5,14 @@ use Prim.Native.Nat.{_≤_, _-_}
 use native.Mathlib.Omega.{arith}
 use borrow.Author.Tests.{lt-ltb, le-ltb}
 use Rattle.rules.specs.Lists.{bigAt, anyBig}
-use Rattle.rules.specs.Numbers.{any}
+use Rattle.rules.specs.Numbers.{anyBelow}
 use Rattle.laws.specs.Conditions.{any-none, any-more, any-at, any-end}
 use Rattle.lent.proofs.TopByte.{top-is}
 use Rattle.lent.proofs.any_big.Statement.{statement}
 use Rattle.lent.proofs.any_big.Tie as tie
 
 abbrev Inv-loop : tie.InvT-loop
-Inv-loop scalars n i₀ i = (i ≤ n) × (any (bigAt scalars) i ≡ false)
+Inv-loop scalars n i₀ i = (i ≤ n) × (anyBelow (bigAt scalars) i ≡ false)
 
 abbrev μ-loop : tie.MeasureT-loop
 μ-loop scalars n i₀ i = n - i

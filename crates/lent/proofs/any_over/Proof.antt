@@ -4,7 +4,7 @@ use mathlib.Core.Path.{_≡_, sym, _∙_}
 use Prim.Native.Nat.{_≤_, _-_}
 use native.Mathlib.Omega.{arith}
 use borrow.Author.Needs.{needs}
-use Rattle.rules.specs.Numbers.{any}
+use Rattle.rules.specs.Numbers.{anyBelow}
 use Rattle.rules.specs.Windows.{over, anyOver}
 use Rattle.laws.specs.Conditions.{any-none, any-more, any-at, any-end}
 use Rattle.lent.proofs.Points.{over-at}
@@ -12,7 +12,7 @@ use Rattle.lent.proofs.any_over.Statement.{statement}
 use Rattle.lent.proofs.any_over.Tie as tie
 
 abbrev Inv-loop : tie.InvT-loop
-Inv-loop limbs n i₀ i = (i ≤ n) × (any (over limbs) i ≡ false)
+Inv-loop limbs n i₀ i = (i ≤ n) × (anyBelow (over limbs) i ≡ false)
 
 abbrev μ-loop : tie.MeasureT-loop
 μ-loop limbs n i₀ i = n - i

@@ -2,17 +2,32 @@
 use mathlib.Core.Path.{refl, sym, _∙_}
 use native.Mathlib.Omega.{arith}
 use lib.ListN.{length}
-use Rattle.pippenger.proofs.Walking.{wide}
+use Rattle.laws.specs.BucketWalk.{wide}
 use Rattle.pippenger.proofs.Refusing.{Ready, ready}
 use Rattle.pippenger.proofs.Summing.{walkable}
-use Rattle.pippenger.proofs.Answering.{fillable, refused-after, done-after}
+use Rattle.pippenger.proofs.Answering.{refused-after, done-after}
 use borrow.Author.Needs.{needs}
 use Rattle.pippenger.proofs.optional_multiscalar_mul.Statement.{statement}
 use Rattle.pippenger.proofs.optional_multiscalar_mul.Tie as tie
 
+-- the places: the start, the width picked, the rows laid, the walk made
+abbrev start : tie.After-width → tie.Start
+start c = c .before .before .before .before .before .before .before .before .before
+
+abbrev widened : tie.After-rows → tie.After-width
+widened c = c .before .before
+
+abbrev rowed : tie.After-walk → tie.After-rows
+rowed c = c .before .before .before .before
+
+abbrev walked : tie.After-sum → tie.After-walk
+walked c = c .before .before .before .before .before .before .before .before .before .before .before .before
+
 -- past the last test
-passed : (c : tie.After-width) → let a = c .before .before .before .before .before .before .before .before .before .args in Ready (a .scalars .now) (a .points .now) (c .before .before .pairs .result) (c .width .result) (length (a .digits .now)) (length (a .buckets .now))
-passed c = ready _ (c .before .before .pairs .ensures) (c .before .picked-by .ensures) (c .width .ensures) (sym (c .before .before .before .before .refusal .ensures) ∙ c .before .before .before .if1 .left)
+passed : (c : tie.After-width) → let a = start c .args in Ready (a .scalars .now) (a .points .now) (c .before .before .pairs .result) (c .width .result) (length (a .digits .now)) (length (a .buckets .now))
+passed c =
+    let t = c .before .before .before in
+    ready _ (c .before .before .pairs .ensures) (c .before .picked-by .ensures) (c .width .ensures) (sym (t .before .refusal .ensures) ∙ t .if1 .left)
 
 refusal-requires : tie.Need-refusal-requires
 refusal-requires c κs = search needs
@@ -32,23 +47,23 @@ picked-by-requires c κs = search needs
 width-requires : tie.Need-width-requires
 width-requires c κs = search needs
 
-fill-requires : tie.Need-fill-requires
-fill-requires c κs = fillable (passed (c .before))
+rows-requires : tie.Need-rows-requires
+rows-requires c κs = search needs
 
 walk-requires : tie.Need-walk-requires
-walk-requires c κs = walkable (passed (c .before .before .before .before .before)) _ (c .before .before .before .fill .ensures) refl
+walk-requires c κs = let r = c .before .before .before in walkable (passed (widened r)) _ refl (r .rows .ensures)
 
 mul-clear-digits : tie.Need-mul-clear-digits
-mul-clear-digits c = omega (arith, passed (c .before .before .before .before .before .before .before .before .before) .few)
+mul-clear-digits c = omega (arith, passed (widened (rowed (c .before .before .before))) .few)
 
 clear-digits-requires : tie.Need-clear-digits-requires
 clear-digits-requires c κs = search needs
 
 buckets-count-requires : tie.Need-buckets-count-requires
-buckets-count-requires c κs = let p = passed (c .before .before .before .before .before .before .before .before .before .before .before .before) in (p .low, p .high)
+buckets-count-requires c κs = let p = passed (widened (rowed (c .before .before .before .before .before .before))) in (p .low, p .high)
 
 mul-clear-limbs : tie.Need-mul-clear-limbs
-mul-clear-limbs c = let p = passed (c .before .before .before .before .before .before .before .before .before .before .before .before .before) in omega (arith, c .buckets-count .ensures, wide _ (p .low) (p .high) .buckets)
+mul-clear-limbs c = let p = passed (widened (rowed (c .before .before .before .before .before .before .before))) in omega (arith, c .buckets-count .ensures, wide _ (p .low) (p .high) .buckets)
 
 clear-limbs-requires : tie.Need-clear-limbs-requires
 clear-limbs-requires c κs = search needs
@@ -63,10 +78,12 @@ same-length-2 : tie.Need-same-length-2
 same-length-2 c = search needs
 
 returns-2 : tie.Need-returns-2
-returns-2 c =
-    let s = c .before .before .before .before .before .before .before .before .before .before .before .before .before .before .before .before .before .before in
-    done-after _ _ _ _ _ (s .before .before .before .before .refusal .ensures) (s .before .before .before .if1 .left) (s .before .before .pairs .ensures) (s .before .picked-by .ensures) (s .width .ensures) (passed s)
-    (c .before .before .before .before .before .before .before .before .before .before .before .before .before .before .before .before .fill .ensures) (c .before .before .before .before .before .before .before .before .before .before .before .before .walk .ensures) (c .before .before .before .before .before .before .before .before .clear-digits .ensures) (c .before .before .before .before .before .buckets-count .ensures) (c .before .before .before .before .clear-limbs .ensures) (c .sum .ensures)
+returns-2 c = let k = walked c in
+    let r = rowed k in
+    let v = widened r in
+    let t = v .before .before .before in
+    done-after _ _ _ _ _ (t .before .refusal .ensures) (t .if1 .left) (v .before .before .pairs .ensures) (v .before .picked-by .ensures) (v .width .ensures) (passed v)
+    (r .rows .ensures) (k .walk .ensures) (c .before .before .before .before .before .before .before .before .clear-digits .ensures) (c .before .before .before .before .before .buckets-count .ensures) (c .before .before .before .before .clear-limbs .ensures) (c .sum .ensures)
 
 pub optional-multiscalar-mul-spec : {M : Type 1} → statement M
 optional-multiscalar-mul-spec =
@@ -78,7 +95,7 @@ optional-multiscalar-mul-spec =
     pairs-requires
     picked-by-requires
     width-requires
-    fill-requires
+    rows-requires
     walk-requires
     mul-clear-digits
     clear-digits-requires

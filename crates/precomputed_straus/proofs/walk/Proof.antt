@@ -1,20 +1,33 @@
 -- The rows and windows are laid and walked; the counts of both are joined.
-use Rattle.precomputed_straus.proofs.MixedRows.{front-long, front-rows, few-additions, few-doublings, mixed-walk}
+use Prim.Native.Nat.{ℕ, _<_}
+use lib.ListN.{getD}
+use Rattle.rules.specs.Values.{limb}
+use Rattle.precomputed_straus.proofs.MixedRows.{digits-long, front-rows, few-additions, few-doublings, mixed-walk}
 use borrow.Author.Needs.{needs}
 use Rattle.precomputed_straus.proofs.walk.Statement.{statement}
 use Rattle.precomputed_straus.proofs.walk.Tie as tie
 
+-- the places: the start, the dynamic rows laid, the static rows laid, the windows laid
+abbrev start : tie.After-rows → tie.Start
+start c = c .before .before .before .before .before .before .before
+
+abbrev dynamic : tie.After-windows → tie.After-rows
+dynamic c = c .before .before .before .before .before .before
+
+abbrev fixed : tie.After-windows → tie.After-rows2
+fixed c = c .before .before .before
+
+abbrev windowed : tie.After-walk → tie.After-windows
+windowed c = c .before .before .before .before .before .before .before
+
+range : (c : tie.After-rows) (i : ℕ) → getD (start c .args .points .now) i 0 < limb
+range c i = c .before .before .before .shared-slice-known4 .given i .fits
+
 mul-d : tie.Need-mul-d
 mul-d c = search needs
 
-slice-relend-prefix-fill : tie.Need-slice-relend-prefix-fill
-slice-relend-prefix-fill c = search needs
-
-slice-aggregate-fill : tie.Need-slice-aggregate-fill
-slice-aggregate-fill c = front-long _ _ _ _ _ (c .before .before .before .before .before .before .args .limbs .now) (c .before .before .before .before .before .before .pre)
-
-fill-requires : tie.Need-fill-requires
-fill-requires c κs = search needs
+rows-requires : tie.Need-rows-requires
+rows-requires c κs = search needs
 
 sub-rows : tie.Need-sub-rows
 sub-rows c = search needs
@@ -25,13 +38,16 @@ part-rows-start c = search needs
 part-rows-end : tie.Need-part-rows-end
 part-rows-end c = search needs
 
-rows-requires : tie.Need-rows-requires
-rows-requires c κs = search needs
+rows-requires-2 : tie.Need-rows-requires-2
+rows-requires-2 c κs = search needs
+
+windows-requires : tie.Need-windows-requires
+windows-requires c κs = search needs
 
 slice-aggregate-walk : tie.Need-slice-aggregate-walk
-slice-aggregate-walk c =
-    let r = c .before .before .before in
-    front-rows _ _ _ _ _ _ (r .before .before .before .before .before .before .before .before .before .before .before .before .before .pre) (λ i. r .before .before .before .before .before .before .before .before .before .shared-slice-known4 .given i .fits) (r .before .before .before .before .before .fill .ensures) (r .rows .ensures)
+slice-aggregate-walk c = let w = c .before .before .before .before in
+    let r = dynamic w in
+    front-rows _ _ _ _ _ _ (start r .pre) (range r) (r .rows .ensures) (r .rows .kept .1 .1 .1 .0) (fixed w .rows2 .ensures) (w .windows .ensures)
 
 sub-walk : tie.Need-sub-walk
 sub-walk c = search needs
@@ -45,46 +61,50 @@ part-walk-end c = search needs
 walk-requires : tie.Need-walk-requires
 walk-requires c κs = search needs
 
-add-t30 : tie.Need-add-t30
-add-t30 c =
-    let w = c .before .before .before in
-    record { fits = few-additions _ _ _ _ _ _ (w .before .before .before .before .before .before .before .before .before .before .before .before .before .before .before .before .before .before .before .pre) (λ i. w .before .before .before .before .before .before .before .before .before .before .before .before .before .before .before .shared-slice-known4 .given i .fits) (w .before .before .before .before .before .before .before .before .before .before .before .fill .ensures) (w .before .before .before .before .before .before .rows .ensures) (w .walk .ensures) }
+add-t33 : tie.Need-add-t33
+add-t33 c = let k = c .before .before .before in
+    let w = windowed k in
+    let r = dynamic w in
+    record { fits = few-additions _ _ _ _ _ _ (start r .pre) (range r) (r .rows .ensures) (r .rows .kept .1 .1 .1 .0) (fixed w .rows2 .ensures) (w .windows .ensures) (k .walk .ensures) }
 
-add-t31 : tie.Need-add-t31
-add-t31 c =
-    let w = c .before .before .before .before .before in
-    record { fits = few-doublings _ _ _ _ _ _ (w .before .before .before .before .before .before .before .before .before .before .before .before .before .before .before .before .before .before .before .pre) (λ i. w .before .before .before .before .before .before .before .before .before .before .before .before .before .before .before .shared-slice-known4 .given i .fits) (w .before .before .before .before .before .before .before .before .before .before .before .fill .ensures) (w .before .before .before .before .before .before .rows .ensures) (w .walk .ensures) }
+add-t34 : tie.Need-add-t34
+add-t34 c = let k = c .before .before .before .before .before in
+    let w = windowed k in
+    let r = dynamic w in
+    record { fits = few-doublings _ _ _ _ _ _ (start r .pre) (range r) (r .rows .ensures) (r .rows .kept .1 .1 .1 .0) (fixed w .rows2 .ensures) (w .windows .ensures) (k .walk .ensures) }
 
 same-length : tie.Need-same-length
-same-length c = search needs
+same-length c = let w = windowed (c .before .before .before .before .before) in
+    let r = dynamic w in
+    digits-long _ _ _ _ _ _ (start r .pre) (range r) (r .rows .ensures) (r .rows .kept .1 .1 .1 .0) (fixed w .rows2 .ensures) (w .windows .ensures)
 
 same-length-2 : tie.Need-same-length-2
 same-length-2 c = search needs
 
 returns : tie.Need-returns
-returns c =
-    let w = c .before .before .before .before .before in
-    mixed-walk _ _ _ _ _ _ (w .before .before .before .before .before .before .before .before .before .before .before .before .before .before .before .before .before .before .before .pre) (λ i. w .before .before .before .before .before .before .before .before .before .before .before .before .before .before .before .shared-slice-known4 .given i .fits) (w .before .before .before .before .before .before .before .before .before .before .before .fill .ensures) (w .before .before .before .before .before .before .rows .ensures) (w .walk .ensures)
+returns c = let k = c .before .before .before .before .before in
+    let w = windowed k in
+    let r = dynamic w in
+    mixed-walk _ _ _ _ _ _ (start r .pre) (range r) (r .rows .ensures) (r .rows .kept .1 .1 .1 .0) (fixed w .rows2 .ensures) (w .windows .ensures) (k .walk .ensures)
 
 pub walk-spec : {M : Type 1} → statement M
 walk-spec =
     tie.close
     (tie.spec
     mul-d
-    slice-relend-prefix-fill
-    slice-aggregate-fill
-    fill-requires
+    rows-requires
     sub-rows
     part-rows-start
     part-rows-end
-    rows-requires
+    rows-requires-2
+    windows-requires
     slice-aggregate-walk
     sub-walk
     part-walk-start
     part-walk-end
     walk-requires
-    add-t30
-    add-t31
+    add-t33
+    add-t34
     same-length
     same-length-2
     returns)

@@ -1,100 +1,71 @@
-// Codes 23 to 26: prepared batches.
-use crate::arguments;
-use crate::arguments::Both;
-use crate::calls::edits;
-use crate::input;
-use crate::input::State;
+// Codes 20 and 23 to 25: static tables and prepared batches, built and edited.
 use crate::line;
 use crate::parts;
+use rules::Counted;
+use rules::Element;
+use rules::OptionalPoint;
 
-// Code 23, its lists read.
-fn prepare_line(
-    out: &mut [u8],
-    scalars: &[u8],
-    points: &[u64],
-    flags: &[u8],
-    digits: &mut [i8],
-    windows: &mut [u64],
-    lengths: Both,
-) -> State {
-    let n = lengths.pairs;
-    let m = lengths.room;
-    let s = m.next;
-    if s.bad {
-        return s;
+// The point that was handed in, by its flag.
+fn point(n: [u64; 16]) -> OptionalPoint {
+    if n[10] == 1 {
+        return OptionalPoint::Present(Element {
+            l0: n[11],
+            l1: n[12],
+            l2: n[13],
+            l3: n[14],
+        });
     }
-    let r = batch::prepare(
-        parts::bytes(scalars, n.a),
-        parts::limbs(points, n.b),
-        parts::bytes(flags, n.c),
-        parts::digits_room(digits, m.a),
-        parts::limbs_room(windows, m.b),
-    );
-    line::counted_with_room(
-        out,
-        r,
-        parts::digits(digits, m.a),
-        parts::limbs(windows, m.b),
-        s,
-    )
+    OptionalPoint::Absent
 }
 
-// Code 23.
-fn prepare(
-    input: &mut [u8],
-    out: &mut [u8],
-    scalars: &mut [u8],
-    points: &mut [u64],
-    flags: &mut [u8],
+// Codes 24 and 25.
+fn edited(
+    code: u64,
+    n: [u64; 16],
+    scalar: &[u8],
     digits: &mut [i8],
     windows: &mut [u64],
-    s: State,
-) -> State {
-    let n = arguments::pairs_and_room(input, scalars, points, flags, digits, windows, s);
-    prepare_line(out, scalars, points, flags, digits, windows, n)
-}
-
-// Code 26.
-fn total(
-    input: &mut [u8],
-    out: &mut [u8],
-    digits: &mut [i8],
-    windows: &mut [u64],
-    s: State,
-) -> State {
-    let n = arguments::room(input, digits, windows, s);
-    let s = n.next;
-    if s.bad {
-        return s;
+) -> Counted {
+    let slot = n[8] as usize;
+    if code == 24 {
+        return batch::set(digits, windows, slot, scalar, point(n));
     }
-    let r = batch::total(parts::digits(digits, n.a), parts::limbs(windows, n.b));
-    let at = line::sum(out, s.put, r);
-    line::end(out, at, s)
+    batch::clear(digits, windows, slot)
 }
 
-// Codes from 23 on; those past 26 are unknown.
+// The counts of any of them.
+fn counts(
+    code: u64,
+    n: [u64; 16],
+    bytes: &[u8],
+    limbs: &[u64],
+    digits: &mut [i8],
+    windows: &mut [u64],
+) -> Counted {
+    let a = parts::bytes(bytes, 0, n[1]);
+    let l = parts::limbs(limbs, 0, n[4]);
+    if code == 20 {
+        return precomputed_straus::new(l, windows);
+    }
+    if code == 23 {
+        let flags = parts::bytes(bytes, 32832, n[2]);
+        return batch::prepare(a, l, flags, digits, windows);
+    }
+    edited(code, n, a, digits, windows)
+}
+
+// The line of any of them.
 pub(crate) fn answer(
     code: u64,
-    input: &mut [u8],
+    n: [u64; 16],
+    bytes: &[u8],
+    limbs: &[u64],
+    digits: &mut [i8],
+    windows: &mut [u64],
     out: &mut [u8],
-    b0: &mut [u8],
-    b1: &mut [u8],
-    d: &mut [i8],
-    l0: &mut [u64],
-    l1: &mut [u64],
-    s: State,
-) -> State {
-    if code == 23 {
-        return prepare(input, out, b0, l0, b1, d, l1, s);
-    }
-    if code == 24 {
-        return edits::set(input, out, d, l0, b0, s);
-    }
-    if code == 25 {
-        return edits::clear(input, out, d, l0, s);
-    }
-    if code == 26 {
-        return total(input, out, d, l0, s);
-    }
-    input::malformed(s)
+    at: usize,
+) -> usize {
+    let r = counts(code, n, bytes, limbs, digits, windows);
+    let at = line::counted(r, out, at);
+    line::lent(code, digits, windows, out, at)
 }

@@ -1,105 +1,21 @@
-// Codes 16 to 19 and 22: the engines over points alone.
-use crate::arguments;
-use crate::arguments::Both;
-use crate::arguments::Lengths;
-use crate::input;
-use crate::input::State;
+// Codes 16 to 19, 21, 22 and 26: the engines, and the total of a batch.
 use crate::line;
 use crate::parts;
 use rules::Sum;
 
-// Code 16.
-fn single(
-    input: &mut [u8],
-    out: &mut [u8],
-    point: &mut [u64],
-    scalar: &mut [u8],
-    s: State,
-) -> State {
-    let n = arguments::statics(input, point, scalar, s);
-    let s = n.next;
-    if s.bad {
-        return s;
+// Codes 16, 17 and 26, which write no list.
+fn short_sum(code: u64, a: &[u8], b: &[u8], point: &[u64], digits: &[i8], windows: &[u64]) -> Sum {
+    if code == 16 {
+        return variable_base::mul(point, a);
     }
-    let r = variable_base::mul(parts::limbs(point, n.a), parts::bytes(scalar, n.b));
-    let at = line::sum(out, s.put, r);
-    line::end(out, at, s)
-}
-
-// Code 17, its lists read.
-fn double_line(out: &mut [u8], a: &[u8], point: &[u64], b: &[u8], n: Lengths) -> State {
-    let s = n.next;
-    if s.bad {
-        return s;
+    if code == 17 {
+        return vartime_double_base::mul(a, point, b);
     }
-    let r = vartime_double_base::mul(
-        parts::bytes(a, n.a),
-        parts::limbs(point, n.b),
-        parts::bytes(b, n.c),
-    );
-    let at = line::sum(out, s.put, r);
-    line::end(out, at, s)
+    batch::total(digits, windows)
 }
 
-// Code 17.
-fn double(
-    input: &mut [u8],
-    out: &mut [u8],
-    a: &mut [u8],
-    point: &mut [u64],
-    b: &mut [u8],
-    s: State,
-) -> State {
-    let n = arguments::pairs(input, a, point, b, s);
-    double_line(out, a, point, b, n)
-}
-
-// Code 18, its lists read.
-fn plain_line(
-    out: &mut [u8],
-    scalars: &[u8],
-    points: &[u64],
-    digits: &mut [i8],
-    limbs: &mut [u64],
-    lengths: Both,
-) -> State {
-    let n = lengths.pairs;
-    let m = lengths.room;
-    let s = m.next;
-    if s.bad {
-        return s;
-    }
-    let r = straus::multiscalar_mul(
-        parts::bytes(scalars, n.a),
-        parts::limbs(points, n.b),
-        parts::digits_room(digits, m.a),
-        parts::limbs_room(limbs, m.b),
-    );
-    line::sum_with_room(
-        out,
-        r,
-        parts::digits(digits, m.a),
-        parts::limbs(limbs, m.b),
-        s,
-    )
-}
-
-// Code 18.
-fn plain(
-    input: &mut [u8],
-    out: &mut [u8],
-    scalars: &mut [u8],
-    points: &mut [u64],
-    digits: &mut [i8],
-    limbs: &mut [u64],
-    s: State,
-) -> State {
-    let n = arguments::plain_and_room(input, scalars, points, digits, limbs, s);
-    plain_line(out, scalars, points, digits, limbs, n)
-}
-
-// Codes 19 and 22: the sum.
-fn optional_sum(
+// Codes 18, 19 and 22.
+fn list_sum(
     code: u64,
     scalars: &[u8],
     points: &[u64],
@@ -107,82 +23,56 @@ fn optional_sum(
     digits: &mut [i8],
     limbs: &mut [u64],
 ) -> Sum {
+    if code == 18 {
+        return straus::multiscalar_mul(scalars, points, digits, limbs);
+    }
     if code == 19 {
         return straus::optional_multiscalar_mul(scalars, points, flags, digits, limbs);
     }
     pippenger::optional_multiscalar_mul(scalars, points, flags, digits, limbs)
 }
 
-// Codes 19 and 22, their lists read.
-fn optional_line(
+// The sum of any of them.
+fn sum(
     code: u64,
-    out: &mut [u8],
-    scalars: &[u8],
-    points: &[u64],
-    flags: &[u8],
+    n: [u64; 16],
+    bytes: &[u8],
+    limbs: &[u64],
     digits: &mut [i8],
-    limbs: &mut [u64],
-    lengths: Both,
-) -> State {
-    let n = lengths.pairs;
-    let m = lengths.room;
-    let s = m.next;
-    if s.bad {
-        return s;
+    windows: &mut [u64],
+) -> Sum {
+    let a = parts::bytes(bytes, 0, n[1]);
+    let b = parts::bytes(bytes, 32832, n[2]);
+    let l = parts::limbs(limbs, 0, n[4]);
+    if code == 21 {
+        return precomputed_straus::optional_mixed_multiscalar_mul(
+            l,
+            a,
+            b,
+            parts::limbs(limbs, 33024, n[5]),
+            parts::bytes(bytes, 65664, n[3]),
+            digits,
+            windows,
+        );
     }
-    let r = optional_sum(
-        code,
-        parts::bytes(scalars, n.a),
-        parts::limbs(points, n.b),
-        parts::bytes(flags, n.c),
-        parts::digits_room(digits, m.a),
-        parts::limbs_room(limbs, m.b),
-    );
-    line::sum_with_room(
-        out,
-        r,
-        parts::digits(digits, m.a),
-        parts::limbs(limbs, m.b),
-        s,
-    )
+    if (code < 18) | (code == 26) {
+        return short_sum(code, a, b, l, digits, windows);
+    }
+    list_sum(code, a, l, b, digits, windows)
 }
 
-// Codes 19 and 22.
-fn optional(
-    code: u64,
-    input: &mut [u8],
-    out: &mut [u8],
-    scalars: &mut [u8],
-    points: &mut [u64],
-    flags: &mut [u8],
-    digits: &mut [i8],
-    limbs: &mut [u64],
-    s: State,
-) -> State {
-    let n = arguments::pairs_and_room(input, scalars, points, flags, digits, limbs, s);
-    optional_line(code, out, scalars, points, flags, digits, limbs, n)
-}
-
-// Codes 16 to 19 and 22.
+// The line of any of them.
 pub(crate) fn answer(
     code: u64,
-    input: &mut [u8],
+    n: [u64; 16],
+    bytes: &[u8],
+    limbs: &[u64],
+    digits: &mut [i8],
+    windows: &mut [u64],
     out: &mut [u8],
-    b0: &mut [u8],
-    b1: &mut [u8],
-    d: &mut [i8],
-    l0: &mut [u64],
-    l1: &mut [u64],
-    s: State,
-) -> State {
-    if code == 16 {
-        return single(input, out, l0, b0, s);
-    }
-    if code == 17 {
-        return double(input, out, b0, l0, b1, s);
-    }
-    if code == 18 {
-        return plain(input, out, b0, l0, d, l1, s);
-    }
-    optional(code, input, out, b0, l0, b1, d, l1, s)
+    at: usize,
+) -> usize {
+    let r = sum(code, n, bytes, limbs, digits, windows);
+    let at = line::sum(r, out, at);
+    line::lent(code, digits, windows, out, at)
 }

@@ -1,23 +1,20 @@
--- The difference, and L more where it borrows.
-use Rattle.residue.proofs.Reduction.{raised, unraised}
+-- The difference modulo L.
+use mathlib.Core.Path.{ap, _∙_}
+use Prim.Native.Nat.{ℕ}
+use Rattle.rules.specs.Group.{subtractedModulo}
+use Rattle.residue.proofs.Reduction.{order-is}
 use borrow.Author.Needs.{needs}
 use Rattle.residue.proofs.minus.Statement.{statement}
 use Rattle.residue.proofs.minus.Tie as tie
 
-difference-requires : tie.Need-difference-requires
-difference-requires c κs = search needs
-
 order-requires : tie.Need-order-requires
 order-requires c κs = search needs
 
-sum-requires : tie.Need-sum-requires
-sum-requires c κs = search needs
+minus-requires : tie.Need-minus-requires
+minus-requires c κs = search needs
 
 returns : tie.Need-returns
-returns c = raised _ _ _ _ _ (c .before .before .before .order .ensures) (c .before .before .before .before .before .difference .ensures) (c .before .before .sum .ensures) (c .if1 .taken)
-
-returns-2 : tie.Need-returns-2
-returns-2 c = unraised _ _ _ _ _ (c .before .before .before .order .ensures) (c .before .before .before .before .before .difference .ensures) (c .before .before .sum .ensures) (c .if1 .left)
+returns c = c .minus .ensures ∙ ap (λ (m : ℕ). subtractedModulo m (c .before .before .args .a) (c .before .before .args .b)) (order-is (c .before .order .ensures))
 
 pub minus-spec : {M : Type 1} → statement M
-minus-spec = tie.close (tie.spec difference-requires order-requires sum-requires returns returns-2)
+minus-spec = tie.close (tie.spec order-requires minus-requires returns)

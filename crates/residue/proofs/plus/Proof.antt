@@ -1,23 +1,20 @@
--- The sum as it is where it is below L, else less L.
-use Rattle.residue.proofs.Reduction.{kept, lessened}
+-- The sum modulo L.
+use mathlib.Core.Path.{ap, _∙_}
+use Prim.Native.Nat.{ℕ}
+use Rattle.rules.specs.Group.{addedModulo}
+use Rattle.residue.proofs.Reduction.{order-is}
 use borrow.Author.Needs.{needs}
 use Rattle.residue.proofs.plus.Statement.{statement}
 use Rattle.residue.proofs.plus.Tie as tie
 
-sum-requires : tie.Need-sum-requires
-sum-requires c κs = search needs
-
 order-requires : tie.Need-order-requires
 order-requires c κs = search needs
 
-difference-requires : tie.Need-difference-requires
-difference-requires c κs = search needs
+plus-requires : tie.Need-plus-requires
+plus-requires c κs = search needs
 
 returns : tie.Need-returns
-returns c = kept _ _ _ _ _ (c .before .before .before .order .ensures) (c .before .before .before .before .before .sum .ensures) (c .before .before .difference .ensures) (c .if1 .taken)
-
-returns-2 : tie.Need-returns-2
-returns-2 c = lessened _ _ _ _ _ (c .before .before .before .order .ensures) (c .before .before .before .before .before .sum .ensures) (c .before .before .difference .ensures) (c .if1 .left)
+returns c = c .plus .ensures ∙ ap (λ (m : ℕ). addedModulo m (c .before .before .args .a) (c .before .before .args .b)) (order-is (c .before .order .ensures))
 
 pub plus-spec : {M : Type 1} → statement M
-plus-spec = tie.close (tie.spec sum-requires order-requires difference-requires returns returns-2)
+plus-spec = tie.close (tie.spec order-requires plus-requires returns)

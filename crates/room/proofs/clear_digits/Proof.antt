@@ -5,7 +5,7 @@ use native.Mathlib.Omega.{arith}
 use lib.IntN.{pos}
 use borrow.Author.Needs.{needs}
 use Rattle.rules.specs.Numbers.{cleared}
-use Rattle.laws.specs.Room.{cleared-none}
+use Rattle.laws.proofs.Room.{cleared-none}
 use Rattle.room.proofs.Clearing.{clear-long, clear-inside, clear-turn, clear-end}
 use Rattle.room.proofs.clear_digits.Statement.{statement}
 use Rattle.room.proofs.clear_digits.Tie as tie

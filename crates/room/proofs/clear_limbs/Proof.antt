@@ -4,7 +4,7 @@ use Prim.Native.Nat.{_≤_, _-_}
 use native.Mathlib.Omega.{arith}
 use borrow.Author.Needs.{needs}
 use Rattle.rules.specs.Numbers.{cleared}
-use Rattle.laws.specs.Room.{cleared-none}
+use Rattle.laws.proofs.Room.{cleared-none}
 use Rattle.room.proofs.Clearing.{clear-long, clear-inside, clear-turn, clear-end}
 use Rattle.room.proofs.clear_limbs.Statement.{statement}
 use Rattle.room.proofs.clear_limbs.Tie as tie

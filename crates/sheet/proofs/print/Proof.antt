@@ -5,16 +5,22 @@ use Rattle.sheet.proofs.print.Statement.{statement}
 use Rattle.sheet.proofs.print.Tie as tie
 
 abbrev Inv-loop : tie.InvT-loop
-Inv-loop value k₀ k = k ≤ 32
+Inv-loop bytes k₀ k = k ≤ 32
 
 abbrev μ-loop : tie.MeasureT-loop
-μ-loop value k₀ k = 32 - k
+μ-loop bytes k₀ k = 32 - k
+
+slice-aggregate-bytes : tie.Need-slice-aggregate-bytes Inv-loop μ-loop
+slice-aggregate-bytes c = search needs
+
+bytes-requires : tie.Need-bytes-requires Inv-loop μ-loop
+bytes-requires c κs = search needs
 
 loop-holds : tie.Need-loop-holds Inv-loop μ-loop
 loop-holds c = search needs
 
-byte-requires : tie.Need-byte-requires Inv-loop μ-loop
-byte-requires c κs = search needs
+array-read-print-hex : tie.Need-array-read-print-hex Inv-loop μ-loop
+array-read-print-hex c = search needs
 
 cast-print-hex : tie.Need-cast-print-hex Inv-loop μ-loop
 cast-print-hex c = search needs
@@ -40,8 +46,10 @@ print-spec =
     (tie.spec
     Inv-loop
     μ-loop
+    slice-aggregate-bytes
+    bytes-requires
     loop-holds
-    byte-requires
+    array-read-print-hex
     cast-print-hex
     print-hex-requires
     add-k

@@ -1,13 +1,37 @@
 -- Refused, the zeros; done, what the walk comes to.
-use mathlib.Core.Path.{refl, sym, _∙_}
+use mathlib.Core.Path.{_≡_, refl, sym, _∙_}
 use native.Mathlib.Omega.{arith}
-use Rattle.rules.specs.Engines.{double}
+use Rattle.rules.specs.Engines.{doubleRefusal, double}
 use Rattle.answer.proofs.Answers.{refused-sum, done-sum}
 use Rattle.vartime_double_base.proofs.Search.{start-inside}
 use Rattle.vartime_double_base.proofs.DoneSum.{Done, sum-done}
 use borrow.Author.Needs.{needs}
 use Rattle.vartime_double_base.proofs.mul.Statement.{statement}
 use Rattle.vartime_double_base.proofs.mul.Tie as tie
+
+-- the places: the start, the first row made, the start place found, the point read, the window made
+abbrev rowed : tie.After-walk → tie.After-naf-row
+rowed c = c .before .before .before .before .before .before .before .before .before .before .before .before
+
+abbrev start : tie.After-walk → tie.Start
+start c = rowed c .before .before .before .before .before .before
+
+abbrev found : tie.After-walk → tie.After-start
+found c = c .before .before .before .before .before .before .before .before
+
+abbrev made : tie.After-walk → tie.After-make-odd8
+made c = c .before .before .before .before .before
+
+-- all tests have passed
+passed : (c : tie.After-walk) → doubleRefusal (start c .args .a .now) (start c .args .point .now) (start c .args .b .now) ≡ 0
+passed c = sym (rowed c .before .before .refusal .ensures) ∙ rowed c .before .if1 .left
+
+done : (c : tie.After-walk) → Done (start c .args .a .now) (start c .args .point .now) (start c .args .b .now) (made c .make-odd8 .result) (c .walk .result)
+done c =
+    let e = made c .before .before in
+    let t = rowed c .before .before .before .before in
+    sum-done _ _ _ (passed c) (λ i. t .shared-slice-known2 .given i .fits)
+    (rowed c .naf-row .ensures) (found c .before .before .before .naf-row2 .ensures) (found c .start .ensures) (e .element-at .ensures) _ refl (made c .make-odd8 .ensures) (c .walk .ensures)
 
 refusal-requires : tie.Need-refusal-requires
 refusal-requires c κs = search needs
@@ -55,20 +79,11 @@ slice-aggregate-walk-3 c = search needs
 add-walk : tie.Need-add-walk
 add-walk c =
     let s = c .before .before .before .before .before .before .before in
-    omega (arith, s .start .ensures, start-inside (s .before .before .before .before .naf-row .result) (s .before .before .before .naf-row2 .result))
+    let n = s .before .before .before in
+    omega (arith, s .start .ensures, start-inside (n .before .naf-row .result) (n .naf-row2 .result))
 
 walk-requires : tie.Need-walk-requires
 walk-requires c κs = search needs
-
--- at the walk
-done : (c : tie.After-walk)
-    → Done (c .before .before .before .before .before .before .before .before .before .before .before .before .before .before .before .before .before .before .args .a .now) (c .before .before .before .before .before .before .before .before .before .before .before .before .before .before .before .before .before .before .args .point .now) (c .before .before .before .before .before .before .before .before .before .before .before .before .before .before .before .before .before .before .args .b .now) (c .before .before .before .before .before .make-odd8 .result) (c .walk .result)
-done c =
-    let e = c .before .before .before .before .before .before .before in
-    let r = e .before .before .before .before .before in
-    let n = r .before .before in
-    sum-done _ _ _ (sym (n .refusal .ensures) ∙ r .before .if1 .left) (λ i. n .before .before .shared-slice-known2 .given i .fits)
-    (r .naf-row .ensures) (e .before .before .before .before .naf-row2 .ensures) (e .before .start .ensures) (e .element-at .ensures) _ refl (c .before .before .before .before .before .make-odd8 .ensures) (c .walk .ensures)
 
 add-sum : tie.Need-add-sum
 add-sum c = record { fits = done (c .before .before) .few-additions }
@@ -83,8 +98,7 @@ returns-2 : tie.Need-returns-2
 unfolding double
 returns-2 c =
     let w = c .before .before .before .before .before in
-    let n = w .before .before .before .before .before .before .before .before .before .before .before .before .before .before in
-    done-sum (sym (n .refusal .ensures) ∙ w .before .before .before .before .before .before .before .before .before .before .before .before .before .if1 .left) _ (c .sum .ensures) (done w .element) (done w .additions) (done w .doublings)
+    done-sum (passed w) _ (c .sum .ensures) (done w .element) (done w .additions) (done w .doublings)
 
 pub mul-spec : {M : Type 1} → statement M
 mul-spec =

@@ -46,10 +46,10 @@ returns : tie.Need-returns Inv-loop μ-loop
 returns c = found-left _ _ _ (c .before .before .loop .inv .1) (not-zero _ (c .if1 .taken))
 
 returns-2 : tie.Need-returns-2 Inv-loop μ-loop
-returns-2 c = found-right _ _ _ (c .before .before .before .before .loop .inv .1) (not-zero _ (c .if2 .taken))
+returns-2 c = let t = c .before .before in found-right _ _ _ (t .before .before .loop .inv .1) (not-zero _ (c .if2 .taken))
 
 returns-3 : tie.Need-returns-3 Inv-loop μ-loop
-returns-3 c = found-end _ _ _ (c .before .before .before .before .before .loop .inv .1) (c .if3 .taken)
+returns-3 c = let t = c .before .before .before in found-end _ _ _ (t .before .before .loop .inv .1) (c .if3 .taken)
 
 pub start-spec : {M : Type 1} → statement M
 start-spec =

@@ -1,6 +1,8 @@
 -- The window that was stepped, put into its part.
 use borrow.Author.Needs.{needs}
-use Rattle.window.proofs.Stepping.{odd-made}
+use Rattle.rules.specs.Values.{limbsOf}
+use Rattle.rules.specs.Group.{elements}
+use Rattle.laws.proofs.Stepping.{odd-made}
 use Rattle.window.proofs.make_odd8.Statement.{statement}
 use Rattle.window.proofs.make_odd8.Tie as tie
 
@@ -19,7 +21,7 @@ same-length c = search needs
 returns : tie.Need-returns
 returns c =
     let s = c .before .before .before .before in
-    odd-made 8 _ _ _ (s .stepped8 .ensures .1) (c .before .before .copy-window8 .ensures) (s .before .before .twice .ensures) (s .stepped8 .ensures .0)
+    odd-made 8 _ _ (s .stepped8 .ensures .1) (c .before .before .copy-window8 .ensures) elements limbsOf _ (s .before .before .twice .ensures) (s .stepped8 .ensures .0)
 
 pub make-odd8-spec : {M : Type 1} → statement M
 make-odd8-spec =

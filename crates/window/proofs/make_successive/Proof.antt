@@ -1,6 +1,6 @@
 -- The window that was stepped, put into its part.
 use borrow.Author.Needs.{needs}
-use Rattle.window.proofs.Stepping.{successive-made}
+use Rattle.laws.proofs.Stepping.{successive-made}
 use Rattle.window.proofs.make_successive.Statement.{statement}
 use Rattle.window.proofs.make_successive.Tie as tie
 
@@ -16,7 +16,7 @@ same-length c = search needs
 returns : tie.Need-returns
 returns c =
     let s = c .before .before .before .before in
-    successive-made 8 _ _ _ (s .stepped8 .ensures .1) (c .before .before .copy-window8 .ensures) (s .stepped8 .ensures .0)
+    successive-made 8 _ _ (s .stepped8 .ensures .1) (c .before .before .copy-window8 .ensures) _ (s .stepped8 .ensures .0)
 
 pub make-successive-spec : {M : Type 1} → statement M
 make-successive-spec =

@@ -1,86 +1,59 @@
 -- The tests in their order, each by what it answered.
 use mathlib.Core.Path.{sym, _∙_}
-use borrow.Author.Tests.{eq-eqb, ne-eqb, le-leb, lt-leb}
-use Rattle.rules.specs.Rows.{notLong}
-use Rattle.rules.specs.Numbers.{first}
-use Rattle.batch.specs.Edge.{edgeRefusal}
+use native.Mathlib.Omega.{arith}
 use borrow.Author.Needs.{needs}
+use borrow.Author.Tests.{le-leb, lt-leb}
+use Rattle.rules.specs.Batch.{edgeRefusal}
+use Rattle.laws.specs.Conditions.{first-here, first-next, first-end, joined-here, joined-next}
+use Rattle.lent.proofs.Passed.{long, not-long}
 use Rattle.batch.proofs.asks.set_refusal.Statement.{statement}
 use Rattle.batch.proofs.asks.set_refusal.Tie as tie
 
-memory-not-whole-requires : tie.Need-memory-not-whole-requires
-memory-not-whole-requires c κs = search needs
-
 returns : tie.Need-returns
-unfolding edgeRefusal first notLong
-returns c =
-    rw (sym (c .before .memory-not-whole .ensures) ∙ c .if1 .taken)
+unfolding edgeRefusal
+returns c = first-here _ _ _ (not-long _ (c .if1 .taken))
+
+memory-requires : tie.Need-memory-requires
+memory-requires c κs = search needs
 
 returns-2 : tie.Need-returns-2
-unfolding edgeRefusal first notLong
-returns-2 c =
-    rw (
-      sym (c .before .before .memory-not-whole .ensures) ∙ c .before .if1 .left,
-      ne-eqb _ _ (c .if2 .taken),
-    )
-
-too-many-requires : tie.Need-too-many-requires
-too-many-requires c κs = search needs
+unfolding edgeRefusal
+returns-2 c = first-next _ _ _ _ (long _ (c .before .before .if1 .left)) (joined-here _ _ (c .before .memory .ensures) (c .if2 .taken))
 
 returns-3 : tie.Need-returns-3
-unfolding edgeRefusal first notLong
+unfolding edgeRefusal
 returns-3 c =
-    rw (
-      sym (c .before .before .before .before .memory-not-whole .ensures) ∙ c .before .before .before .if1 .left,
-      eq-eqb _ _ (c .before .before .if2 .left),
-      sym (c .before .too-many .ensures) ∙ c .if3 .taken,
-    )
-
-returns-4 : tie.Need-returns-4
-unfolding edgeRefusal first notLong
-returns-4 c =
-    rw (
-      sym (c .before .before .before .before .before .memory-not-whole .ensures) ∙ c .before .before .before .before .if1 .left,
-      eq-eqb _ _ (c .before .before .before .if2 .left),
-      sym (c .before .before .too-many .ensures) ∙ c .before .if3 .left,
-      le-leb _ _ (c .if4 .taken),
-    )
+    let m = c .before in
+    first-next _ _ _ _ (long _ (m .before .before .if1 .left)) (joined-next _ _ (omega arith) (m .before .memory .ensures) (m .if2 .left) (first-here _ _ _ (le-leb _ _ (c .if3 .taken))))
 
 any-big-requires : tie.Need-any-big-requires
 any-big-requires c κs = search needs
 
-returns-5 : tie.Need-returns-5
-unfolding edgeRefusal first notLong
-returns-5 c =
-    rw (
-      sym (c .before .before .before .before .before .before .before .memory-not-whole .ensures) ∙ c .before .before .before .before .before .before .if1 .left,
-      eq-eqb _ _ (c .before .before .before .before .before .if2 .left),
-      sym (c .before .before .before .before .too-many .ensures) ∙ c .before .before .before .if3 .left,
-      lt-leb _ _ (c .before .before .if4 .left),
-      sym (c .before .any-big .ensures) ∙ c .if5 .taken,
-    )
+returns-4 : tie.Need-returns-4
+unfolding edgeRefusal
+returns-4 c =
+    let s = c .before .before in
+    let m = s .before in
+    first-next _ _ _ _ (long _ (m .before .before .if1 .left))
+    (joined-next _ _ (omega arith) (m .before .memory .ensures) (m .if2 .left) (first-next _ _ _ _ (lt-leb _ _ (s .if3 .left)) (first-here _ _ _ (sym (c .before .any-big .ensures) ∙ c .if4 .taken))))
 
-returns-6 : tie.Need-returns-6
-unfolding edgeRefusal first notLong
-returns-6 c =
-    rw (
-      sym (c .before .before .before .before .before .before .before .memory-not-whole .ensures) ∙ c .before .before .before .before .before .before .if1 .left,
-      eq-eqb _ _ (c .before .before .before .before .before .if2 .left),
-      sym (c .before .before .before .before .too-many .ensures) ∙ c .before .before .before .if3 .left,
-      lt-leb _ _ (c .before .before .if4 .left),
-      sym (c .before .any-big .ensures) ∙ c .if5 .left,
-    )
+returns-5 : tie.Need-returns-5
+unfolding edgeRefusal
+returns-5 c =
+    let s = c .before .before in
+    let m = s .before in
+    first-next _ _ _ _ (long _ (m .before .before .if1 .left))
+    (joined-next _ _ (omega arith) (m .before .memory .ensures) (m .if2 .left)
+    (first-next _ _ _ _ (lt-leb _ _ (s .if3 .left)) (first-next _ _ _ _ (sym (c .before .any-big .ensures) ∙ c .if4 .left) first-end)))
 
 pub set-refusal-spec : {M : Type 1} → statement M
 set-refusal-spec =
     tie.close
     (tie.spec
-    memory-not-whole-requires
     returns
+    memory-requires
     returns-2
-    too-many-requires
     returns-3
-    returns-4
     any-big-requires
-    returns-5
-    returns-6)
+    returns-4
+    returns-5)

@@ -1,5 +1,5 @@
 -- 128 halved as often as the width is below 8.
-use Rattle.pippenger.proofs.Walking.{wide}
+use Rattle.laws.specs.BucketWalk.{wide}
 use borrow.Author.Needs.{needs}
 use Rattle.pippenger.proofs.walk.buckets_count.Statement.{statement}
 use Rattle.pippenger.proofs.walk.buckets_count.Tie as tie

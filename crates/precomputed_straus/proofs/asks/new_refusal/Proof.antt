@@ -2,7 +2,7 @@
 use mathlib.Core.Path.{sym, _∙_}
 use native.Mathlib.Omega.{arith}
 use borrow.Author.Tests.{eq-eqb, ne-eqb}
-use Rattle.rules.specs.Numbers.{first}
+use Rattle.rules.specs.Numbers.{mostStatic, first}
 use Rattle.rules.specs.Lists.{otherThan}
 use Rattle.rules.specs.Engines.{newRefusal}
 use Rattle.lent.proofs.Passed.{few}
@@ -27,7 +27,7 @@ returns-2 c =
     rw (sym (w .before .not-whole .ensures) ∙ w .if1 .left, sym (c .before .too-many .ensures) ∙ c .if2 .taken)
 
 mul-if3 : tie.Need-mul-if3
-mul-if3 c = omega (arith, few 64 4 _ (sym (c .before .too-many .ensures) ∙ c .if2 .left))
+mul-if3 c = omega (arith, few mostStatic 4 _ (sym (c .before .too-many .ensures) ∙ c .if2 .left))
 
 returns-3 : tie.Need-returns-3
 unfolding newRefusal first otherThan

@@ -14,8 +14,8 @@ abbrev μ-loop : tie.MeasureT-loop
 loop-holds : tie.Need-loop-holds Inv-loop μ-loop
 loop-holds c = search needs
 
-limb-byte-requires : tie.Need-limb-byte-requires Inv-loop μ-loop
-limb-byte-requires c κs = search needs
+byte-of-requires : tie.Need-byte-of-requires Inv-loop μ-loop
+byte-of-requires c κs = search needs
 
 mixed-requires : tie.Need-mixed-requires Inv-loop μ-loop
 mixed-requires c κs = search needs
@@ -39,7 +39,7 @@ mixed-limb-spec =
     Inv-loop
     μ-loop
     loop-holds
-    limb-byte-requires
+    byte-of-requires
     mixed-requires
     add-k
     loop-less

@@ -15,8 +15,8 @@ abbrev μ-loop : tie.MeasureT-loop
 loop-holds : tie.Need-loop-holds Inv-loop μ-loop
 loop-holds c = search needs
 
-limb-byte-requires : tie.Need-limb-byte-requires Inv-loop μ-loop
-limb-byte-requires c κs = search needs
+byte-of-requires : tie.Need-byte-of-requires Inv-loop μ-loop
+byte-of-requires c κs = search needs
 
 hex-byte-requires : tie.Need-hex-byte-requires Inv-loop μ-loop
 hex-byte-requires c κs = search needs
@@ -43,7 +43,7 @@ hex-limb-spec =
     Inv-loop
     μ-loop
     loop-holds
-    limb-byte-requires
+    byte-of-requires
     hex-byte-requires
     add-k
     loop-less

@@ -2,7 +2,7 @@
 use borrow.Author.Needs.{needs}
 use mathlib.Core.Path.{_≡_, _∙_, ap}
 use mathlib.Core.Logic.{⊎-elim}
-use Prim.Native.Nat.{ℕ, _+_, _-_, _/_, _%_, _^_}
+use Prim.Native.Nat.{ℕ, _+_, _-_, _/_, _%_, _^_, _≤_}
 use native.Mathlib.Omega.{arith}
 use lib.Bits.{bitAnd}
 use lib.ListN.{take}
@@ -20,8 +20,8 @@ Inv-loop scalar w naf₀ x-u64 width window-mask pos₀ carry₀ naf pos carry =
 abbrev μ-loop : tie.MeasureT-loop
 μ-loop scalar w naf₀ x-u64 width window-mask pos₀ carry₀ naf pos carry = 256 - pos
 
-words-requires : tie.Need-words-requires Inv-loop μ-loop
-words-requires c κs = tt
+five-words-requires : tie.Need-five-words-requires Inv-loop μ-loop
+five-words-requires c κs = tt
 
 power-requires : tie.Need-power-requires Inv-loop μ-loop
 power-requires c κs = omega (arith, c .before .before .pre)
@@ -32,25 +32,34 @@ sub-window-mask c = omega (arith, pow-pos (c .before .before .before .args .w))
 loop-holds : tie.Need-loop-holds Inv-loop μ-loop
 loop-holds c = start _ _
 
+-- the scalar's number and the width's bounds, once 2 ^ w is there
+module _ (c : tie.After-power Inv-loop μ-loop) where
+  abbrev w : ℕ
+  w = c .before .before .before .args .w
+
+  abbrev N : ℕ
+  N = number 256 (take 32 (c .before .before .before .args .scalar .now))
+
+  bounds : (2 ≤ w) × (w ≤ 8)
+  bounds = c .before .before .before .pre
+
 bit-buf-requires : tie.Need-bit-buf-requires Inv-loop μ-loop
-bit-buf-requires c κs = (c .before .before .before .words .ensures .0, (c .loop-test .taken, c .before .before .before .before .before .pre .1))
+bit-buf-requires c κs = (c .before .before .before .five-words .ensures .0, (omega (arith, c .loop-test .taken), bounds (c .before .before) .1))
 
 -- the window with the carry into it, as the laws say it
 window-is : (c : tie.After-bit-buf Inv-loop μ-loop) →
     let h = c .before .before in
-    let a = h .before .before .before .before .args in
-    h .loop .carry + bitAnd (c .bit-buf .result) (h .before .power .result - 1) ≡ h .loop .carry + number 256 (take 32 (a .scalar .now)) / 2 ^ (h .loop .pos) % 2 ^ (a .w)
+    h .loop .carry + bitAnd (c .bit-buf .result) (h .before .power .result - 1) ≡ h .loop .carry + N (h .before) / 2 ^ (h .loop .pos) % 2 ^ w (h .before)
 window-is c =
     let h = c .before .before in
-    let a = h .before .before .before .before .args in
     ap (λ (x : ℕ). h .loop .carry + x)
-    (masked (c .bit-buf .result) (h .before .power .result) (a .w) _ (h .before .power .ensures)
-    (c .bit-buf .ensures ∙ ap (λ (n : ℕ). n / 2 ^ (h .loop .pos) % 2 ^ (a .w)) (h .before .before .words .ensures .1)))
+    (masked (c .bit-buf .result) (h .before .power .result) (w (h .before)) _ (h .before .power .ensures)
+    (c .bit-buf .ensures ∙ ap (λ (n : ℕ). n / 2 ^ (h .loop .pos) % 2 ^ w (h .before)) (h .before .before .five-words .ensures .1)))
 
 add-window : tie.Need-add-window Inv-loop μ-loop
 add-window c =
     let h = c .before .before in
-    let p = h .before .before .before .before .pre in
+    let p = bounds (h .before) in
     omega (arith, window-le _ (p .0) (p .1) _ _ _ _ _ (h .loop .inv) (window-is c) (c .before .loop-test .taken), width-le _ (p .0) (p .1) _ _ _ _ _ (h .loop .inv) (window-is c) (c .before .loop-test .taken))
 
 add-pos : tie.Need-add-pos Inv-loop μ-loop
@@ -62,7 +71,7 @@ loop-less c = omega (arith, c .before .before .loop-test .taken)
 loop-again : tie.Need-loop-again Inv-loop μ-loop
 loop-again c =
     let h = c .before .before .before in
-    let p = h .before .before .before .before .pre in
+    let p = bounds (h .before) in
     skip _ (p .0) (p .1) _ _ _ _ _ (h .loop .inv) (window-is (c .before)) (c .before .before .loop-test .taken) (even-bit _ (c .if1 .taken))
 
 wrapping-digit-requires : tie.Need-wrapping-digit-requires Inv-loop μ-loop
@@ -78,15 +87,15 @@ array-set-from-naf-2 : tie.Need-array-set-from-naf-2 Inv-loop μ-loop
 array-set-from-naf-2 c = c .before .before .before .before .loop-test .taken
 
 add-pos-2 : tie.Need-add-pos-2 Inv-loop μ-loop
-add-pos-2 c = omega (arith, c .before .before .before .loop-test .taken, c .before .before .before .before .before .before .before .before .pre)
+add-pos-2 c = omega (arith, c .before .before .before .loop-test .taken, bounds (c .before .before .before .before .before))
 
 loop-less-2 : tie.Need-loop-less-2 Inv-loop μ-loop
-loop-less-2 c = omega (arith, c .before .before .before .loop-test .taken, c .before .before .before .before .before .before .before .before .pre)
+loop-less-2 c = omega (arith, c .before .before .before .loop-test .taken, bounds (c .before .before .before .before .before))
 
 loop-again-2 : tie.Need-loop-again-2 Inv-loop μ-loop
 loop-again-2 c =
     let h = c .before .before .before .before in
-    let p = h .before .before .before .before .pre in
+    let p = bounds (h .before) in
     let odd = odd-bit _ (c .before .if1 .left) in
     ⊎-elim
     (λ t. put-low _ (p .0) (p .1) _ _ _ _ _ (h .loop .inv) (window-is (c .before .before)) (c .before .before .before .loop-test .taken)
@@ -104,7 +113,7 @@ naf-digits-spec =
     (tie.spec
     Inv-loop
     μ-loop
-    words-requires
+    five-words-requires
     power-requires
     sub-window-mask
     loop-holds

@@ -19,8 +19,8 @@ abbrev μ-loop : tie.MeasureT-loop
 loop-holds : tie.Need-loop-holds Inv-loop μ-loop
 loop-holds c = halves-none _
 
-byte-requires : tie.Need-byte-requires Inv-loop μ-loop
-byte-requires c κs = tt
+byte-at-requires : tie.Need-byte-at-requires Inv-loop μ-loop
+byte-at-requires c κs = tt
 
 bot-half-requires : tie.Need-bot-half-requires Inv-loop μ-loop
 bot-half-requires c κs = tt
@@ -54,7 +54,7 @@ loop-again c =
     let h = c .before .before .before .before in
     let i = c .before .before .before .loop-test .taken in
     halves-more _ _ _ _ (h .loop .inv) i
-    (c .before .before .byte .ensures .0 ∙ byte-is (h .before .before .args .scalar .now) (λ j. h .before .shared-slice-known .given j .fits) (h .loop .i) i)
+    (c .before .before .byte-at .ensures ∙ byte-is (h .before .before .args .scalar .now) (λ j. h .before .shared-slice-known .given j .fits) (h .loop .i) i)
     _ _ (toZ-ofZ (search needs) ∙ c .before .bot-half .ensures) (toZ-ofZ (search needs) ∙ c .top-half .ensures)
 
 returns : tie.Need-returns Inv-loop μ-loop
@@ -67,7 +67,7 @@ nibbles-spec =
     Inv-loop
     μ-loop
     loop-holds
-    byte-requires
+    byte-at-requires
     bot-half-requires
     mul-output
     array-set-from-output

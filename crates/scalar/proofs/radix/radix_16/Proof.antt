@@ -6,7 +6,7 @@ use native.Mathlib.Omega.{arith}
 use lib.ListN.{take}
 use mir.Facts.{toZ-ofZ}
 use Rattle.rules.specs.Values.{number}
-use Rattle.laws.specs.Numerals.{part-lt}
+use Rattle.laws.proofs.Numerals.{part-lt}
 use Rattle.scalar.proofs.NibbleTurn.{Centring, centring-none, centring-more, centring-end, small-here, small-carry, small-next}
 use Rattle.scalar.proofs.radix.radix_16.Statement.{statement}
 use Rattle.scalar.proofs.radix.radix_16.Tie as tie
@@ -29,44 +29,48 @@ array-copy-out-d c = omega (arith, c .loop-test .taken)
 carry-of-requires : tie.Need-carry-of-requires Inv-loop μ-loop
 carry-of-requires c κs = small-here _ _ _ (c .before .before .loop .inv .1) (c .before .loop-test .taken)
 
+-- the turn that carries out of a digit
+abbrev turn : tie.After-carry-of Inv-loop μ-loop → tie.In-loop Inv-loop μ-loop
+turn c = c .before .before
+
 recentred-requires : tie.Need-recentred-requires Inv-loop μ-loop
-recentred-requires c κs = (small-here _ _ _ (c .before .before .before .loop .inv .1) (c .before .before .loop-test .taken), toZ-ofZ (search needs) ∙ c .carry-of .ensures)
+recentred-requires c κs = (small-here _ _ _ (turn c .before .loop .inv .1) (turn c .loop-test .taken), toZ-ofZ (search needs) ∙ c .carry-of .ensures)
 
 array-set-from-output : tie.Need-array-set-from-output Inv-loop μ-loop
-array-set-from-output c = omega (arith, c .before .before .before .loop-test .taken)
+array-set-from-output c = omega (arith, turn (c .before) .loop-test .taken)
 
 add-e : tie.Need-add-e Inv-loop μ-loop
-add-e c = omega (arith, c .before .before .before .loop-test .taken)
+add-e c = omega (arith, turn (c .before) .loop-test .taken)
 
 array-copy-out-e : tie.Need-array-copy-out-e Inv-loop μ-loop
-array-copy-out-e c = omega (arith, c .before .before .before .loop-test .taken)
+array-copy-out-e c = omega (arith, turn (c .before) .loop-test .taken)
 
 carried-requires : tie.Need-carried-requires Inv-loop μ-loop
 carried-requires c κs =
-    let h = c .before .before .before .before .before in
-    let lt = c .before .before .before .before .loop-test .taken in (
-      small-next _ _ _ (h .loop .inv .1) lt _,
-      small-carry _ _ _ (h .loop .inv .1) lt _ (toZ-ofZ (search needs) ∙ c .before .before .carry-of .ensures),
+    let t = turn (c .before .before) in
+    let lt = t .loop-test .taken in (
+      small-next _ _ _ (t .before .loop .inv .1) lt _,
+      small-carry _ _ _ (t .before .loop .inv .1) lt _ (toZ-ofZ (search needs) ∙ c .before .before .carry-of .ensures),
     )
 
 add-output : tie.Need-add-output Inv-loop μ-loop
-add-output c = omega (arith, c .before .before .before .before .before .loop-test .taken)
+add-output c = omega (arith, turn (c .before .before .before) .loop-test .taken)
 
 array-set-from-output-2 : tie.Need-array-set-from-output-2 Inv-loop μ-loop
-array-set-from-output-2 c = omega (arith, c .before .before .before .before .before .loop-test .taken)
+array-set-from-output-2 c = omega (arith, turn (c .before .before .before) .loop-test .taken)
 
 add-i : tie.Need-add-i Inv-loop μ-loop
-add-i c = omega (arith, c .before .before .before .before .before .loop-test .taken)
+add-i c = omega (arith, turn (c .before .before .before) .loop-test .taken)
 
 loop-less : tie.Need-loop-less Inv-loop μ-loop
-loop-less c = omega (arith, c .before .before .before .before .before .loop-test .taken)
+loop-less c = omega (arith, turn (c .before .before .before) .loop-test .taken)
 
 loop-again : tie.Need-loop-again Inv-loop μ-loop
 loop-again c =
-    let h = c .before .before .before .before .before .before in
-    let lt = c .before .before .before .before .before .loop-test .taken in (
+    let t = turn (c .before .before .before) in
+    let lt = t .loop-test .taken in (
       omega arith,
-      centring-more _ _ _ (h .loop .inv .1) lt _ (toZ-ofZ (search needs) ∙ c .before .before .before .carry-of .ensures) _ _
+      centring-more _ _ _ (t .before .loop .inv .1) lt _ (toZ-ofZ (search needs) ∙ c .before .before .before .carry-of .ensures) _ _
           (toZ-ofZ (search needs) ∙ c .before .before .recentred .ensures) (toZ-ofZ (search needs) ∙ c .carried .ensures),
     )
 

@@ -52,7 +52,8 @@ part-added-end-2 c = omega arith
 added-requires : tie.Need-added-requires Inv-loop μ-loop
 added-requires c κs =
     let s = c .before .before .before in
-    row-long _ (s .loop .i) (c .before .before .before .before .before .args .m) _ (c .before .before .before .before .before .pre .0 .digits) (omega arith) (c .before .before .before .before .before .pre .1)
+    let a = s .before .before in
+    row-long _ (s .loop .i) (a .args .m) _ (a .pre .0 .digits) (omega arith) (a .pre .1)
 
 add-additions : tie.Need-add-additions Inv-loop μ-loop
 add-additions c = search needs
@@ -64,7 +65,10 @@ loop-less : tie.Need-loop-less Inv-loop μ-loop
 loop-less c = omega arith
 
 loop-again : tie.Need-loop-again Inv-loop μ-loop
-loop-again c = (omega arith, passed-more _ _ _ _ _ (c .before .before .before .before .before .loop .inv .1) (c .before .added .ensures), omega (arith, c .before .before .before .before .before .loop .inv .2))
+loop-again c =
+    let a = c .before .before in
+    let l = a .before .before .before in
+    (omega arith, passed-more _ _ _ _ _ (l .loop .inv .1) (c .before .added .ensures), omega (arith, l .loop .inv .2))
 
 returns : tie.Need-returns Inv-loop μ-loop
 returns c = (passed-all _ _ _ _ _ _ (c .before .loop .inv .0) (c .loop-test .left) (c .before .loop .inv .1), omega (arith, c .before .loop .inv .2))

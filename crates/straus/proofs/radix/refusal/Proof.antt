@@ -1,99 +1,64 @@
--- Each return by the conditions that were tested.
-use mathlib.Core.Path.{_≡_, refl}
-use mathlib.Core.Bool.{false, _||_}
+-- The three parts in their order, each by what it answered.
+use mathlib.Core.Path.{ap}
+use Prim.Native.Nat.{_*_, _≤_}
 use native.Mathlib.Omega.{arith}
-use lib.ListN.{length}
 use borrow.Author.Needs.{needs}
-use Rattle.rules.specs.Lists.{notIn, listsTooMany, anyBig}
-use Rattle.laws.specs.Conditions.{or-none}
-use Rattle.straus.proofs.Refusing.{told, few-pairs, short, short-digits, short-limbs, long-enough, scalars-not-whole, points-not-whole, radix-answers}
+use Rattle.rules.specs.Numbers.{most}
+use Rattle.rules.specs.Engines.{radixStrausRefusal}
+use Rattle.laws.specs.Conditions.{joined-here, joined-next}
+use Rattle.lent.proofs.Passed.{counts-few, room-is}
 use Rattle.straus.proofs.radix.refusal.Statement.{statement}
 use Rattle.straus.proofs.radix.refusal.Tie as tie
 
--- what has passed, test by test
-whole : (c : tie.Else2) → let a = c .before .before .before .before .before .before .args in (notIn 32 (length (a .scalars .now)) || notIn 4 (length (a .points .now))) ≡ false
-whole c = or-none _ _ (told (c .before .before .before .not-whole .ensures) (c .before .before .if1 .left)) (told (c .before .not-whole2 .ensures) (c .if2 .left))
-
-few : (c : tie.Else3) → let a = c .before .before .before .before .before .before .before .before .args in listsTooMany (a .scalars .now) (a .points .now) ≡ false
-few c = told (c .before .lists-too-many .ensures) (c .if3 .left)
-
-long : (c : tie.Else5) → let a = c .before .before .before .before .before .before .before .before .before .before .before .args in short 64 (a .scalars .now) (a .points .now) (a .digits) (a .limbs) ≡ false
-long c = long-enough 64 _ _ _ _ (c .before .before .smaller .ensures) (c .before .if4 .left) (c .if5 .left)
-
-small : (c : tie.Else6) → anyBig (c .before .before .before .before .before .before .before .before .before .before .before .before .before .args .scalars .now) ≡ false
-small c = told (c .before .any-big .ensures) (c .if6 .left)
-
-not-whole-requires : tie.Need-not-whole-requires
-not-whole-requires c κs = search needs
+plain-lists-requires : tie.Need-plain-lists-requires
+plain-lists-requires c κs = search needs
 
 returns : tie.Need-returns
-returns c = scalars-not-whole _ _ _ _ (told (c .before .not-whole .ensures) (c .if1 .taken))
+unfolding radixStrausRefusal
+returns c = joined-here _ _ (c .before .plain-lists .ensures) (c .if1 .taken)
 
-not-whole-requires-2 : tie.Need-not-whole-requires-2
-not-whole-requires-2 c κs = search needs
+pairs-requires : tie.Need-pairs-requires
+pairs-requires c κs = search needs
+
+few : (c : tie.After-pairs) → c .pairs .result ≤ most
+few c = let s = c .before in omega (arith, c .pairs .ensures, counts-few _ _ _ (s .before .plain-lists .ensures) (s .if1 .left) .1)
+
+mul-room : tie.Need-mul-room
+mul-room c = omega (arith, few c)
+
+mul-room-2 : tie.Need-mul-room-2
+mul-room-2 c = omega (arith, few c)
+
+room-requires : tie.Need-room-requires
+room-requires c κs = search needs
 
 returns-2 : tie.Need-returns-2
-returns-2 c = points-not-whole _ _ _ _ (told (c .before .not-whole2 .ensures) (c .if2 .taken))
+unfolding radixStrausRefusal
+returns-2 c =
+    let p = c .before .before in
+    joined-next _ _ (omega arith) (p .before .before .plain-lists .ensures) (p .before .if1 .left) (joined-here _ _ (room-is _ _ (ap (_*_ 64) (p .pairs .ensures)) (ap (_*_ 32) (p .pairs .ensures)) (c .before .room .ensures)) (c .if2 .taken))
 
-lists-too-many-requires : tie.Need-lists-too-many-requires
-lists-too-many-requires c κs = search needs
+plain-contents-requires : tie.Need-plain-contents-requires
+plain-contents-requires c κs = search needs
 
 returns-3 : tie.Need-returns-3
-returns-3 c = radix-answers _ _ _ _ (whole (c .before .before)) (told (c .before .lists-too-many .ensures) (c .if3 .taken)) refl refl refl
-
-smaller-requires : tie.Need-smaller-requires
-smaller-requires c κs = search needs
-
-mul-if4 : tie.Need-mul-if4
-mul-if4 c = omega (arith, few-pairs _ _ (c .smaller .ensures) (few (c .before)))
-
-returns-4 : tie.Need-returns-4
-returns-4 c = radix-answers _ _ _ _ (whole (c .before .before .before .before)) (few (c .before .before)) (short-digits 64 _ _ _ _ (c .before .smaller .ensures) (c .if4 .taken)) refl refl
-
-mul-if5 : tie.Need-mul-if5
-mul-if5 c = omega (arith, few-pairs _ _ (c .before .smaller .ensures) (few (c .before .before)))
-
-returns-5 : tie.Need-returns-5
-returns-5 c = radix-answers _ _ _ _ (whole (c .before .before .before .before .before)) (few (c .before .before .before)) (short-limbs 64 _ _ _ _ (c .before .before .smaller .ensures) (c .if5 .taken)) refl refl
-
-any-big-requires : tie.Need-any-big-requires
-any-big-requires c κs = search needs
-
-returns-6 : tie.Need-returns-6
-returns-6 c = let s = c .before .before in radix-answers _ _ _ _ (whole (s .before .before .before .before .before)) (few (s .before .before .before)) (long s) (told (c .before .any-big .ensures) (c .if6 .taken)) refl
-
-any-over-requires : tie.Need-any-over-requires
-any-over-requires c κs = search needs
-
-returns-7 : tie.Need-returns-7
-returns-7 c =
-    let b = c .before .before in
-    let s = b .before .before in
-    radix-answers _ _ _ _ (whole (s .before .before .before .before .before)) (few (s .before .before .before)) (long s) (small b) (told (c .before .any-over .ensures) (c .if7 .taken))
-
-returns-8 : tie.Need-returns-8
-returns-8 c =
-    let b = c .before .before in
-    let s = b .before .before in
-    radix-answers _ _ _ _ (whole (s .before .before .before .before .before)) (few (s .before .before .before)) (long s) (small b) (told (c .before .any-over .ensures) (c .if7 .left))
+unfolding radixStrausRefusal
+returns-3 c =
+    let r = c .before in
+    let p = r .before .before in
+    joined-next _ _ (omega arith) (p .before .before .plain-lists .ensures) (p .before .if1 .left)
+    (joined-next _ _ (omega arith) (room-is _ _ (ap (_*_ 64) (p .pairs .ensures)) (ap (_*_ 32) (p .pairs .ensures)) (r .before .room .ensures)) (r .if2 .left) (c .plain-contents .ensures))
 
 pub refusal-spec : {M : Type 1} → statement M
 refusal-spec =
     tie.close
     (tie.spec
-    not-whole-requires
+    plain-lists-requires
     returns
-    not-whole-requires-2
+    pairs-requires
+    mul-room
+    mul-room-2
+    room-requires
     returns-2
-    lists-too-many-requires
-    returns-3
-    smaller-requires
-    mul-if4
-    returns-4
-    mul-if5
-    returns-5
-    any-big-requires
-    returns-6
-    any-over-requires
-    returns-7
-    returns-8)
+    plain-contents-requires
+    returns-3)

@@ -30,13 +30,15 @@ column-requires : tie.Need-column-requires Inv-loop μ-loop
 column-requires c κs =
     let s = c .before .before .before in
     let p = s .before .before .before .pre in
-    (p, omega (arith, s .loop .inv .place), omega (arith, additions-fit _ _ _ (s .loop .inv) (omega arith), p .few))
+    (p, omega (arith, s .loop .inv .place), omega (arith, additions-fit _ _ _ (s .loop .inv) (omega arith), p .digits))
 
 loop-less : tie.Need-loop-less Inv-loop μ-loop
 loop-less c = omega arith
 
 loop-again : tie.Need-loop-again Inv-loop μ-loop
-loop-again c = walking-more _ _ _ (c .before .before .before .before .loop .inv) (omega arith) (c .before .before .mul-by-pow-2 .ensures) (c .column .ensures)
+loop-again c =
+    let m = c .before .before in
+    walking-more _ _ _ (m .before .before .loop .inv) (omega arith) (m .mul-by-pow-2 .ensures) (c .column .ensures)
 
 returns : tie.Need-returns Inv-loop μ-loop
 returns c = walking-end _ _ _ (c .before .loop .inv) (c .loop-test .left)

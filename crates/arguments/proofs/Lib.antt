@@ -1,0 +1,13 @@
+pub mod Contracts
+pub mod Refusing
+pub mod Recoded
+pub mod Answering
+pub mod Passing
+pub mod Storing
+pub mod Entries
+pub mod Accepted
+pub mod Edits
+pub mod Ready
+pub mod Fresh
+pub mod Agree
+pub mod Total

@@ -1,0 +1,1 @@
+// What proves the claims. No function.

@@ -1,0 +1,2 @@
+mod Parts
+pub mod Built
