@@ -12,7 +12,7 @@ use rules::Value;
 pub fn value(e: Element) -> Value
     ensures { λ r. ⌜ r ≡ valueDone e ⌝ }
 {
-    let value = limbs::array(e);
+    let value = flat::array(e);
     Value { number: 0, value }
 }
 
@@ -31,7 +31,7 @@ pub fn counted(c: Counts) -> Counted
 pub fn sum(e: Element, additions: u64, doublings: u64) -> Sum
     ensures { λ r. ⌜ r ≡ sumDone e additions doublings ⌝ }
 {
-    let value = limbs::array(e);
+    let value = flat::array(e);
     Sum {
         number: 0,
         value,

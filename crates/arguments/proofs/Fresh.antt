@@ -16,7 +16,7 @@ use Rattle.rules.specs.Numbers.{scalarBound, given, counted}
 use Rattle.rules.specs.Lists.{pointCount, listsNotWhole, listsTooMany, anyBig, bigAt, anyPoint, badLists, pointOver, isAbsent, absentBelow, stored}
 use Rattle.rules.specs.Batch.{Memory, Pairs, Edit, apply, memoryAfter, limbsIn, valueIn, edited, listAfter, fresh, slotRow, slotWindow, slotOf, bytesOf, pointOf, numberBy}
 use Rattle.laws.specs.Conditions.{or-none, any-below, any-absent, given-done, given-refused}
-use Rattle.laws.specs.Parts.{flat-length, flat-ext, stored-flat}
+use Rattle.laws.specs.Parts.{flat-length, flat-ext, spliced-flat}
 use Rattle.rules.specs.Claims.{prepared, slots, answersIn, answersBy}
 use Rattle.arguments.proofs.Storing.{as-part, stored-long, stored-at}
 use Rattle.arguments.proofs.Entries.{point-part, limbs-long, limbs-value, whole-scalar, over-by-flag, absent-by-flag}
@@ -85,7 +85,7 @@ module _ (l : Pairs) (e : Edit) (r : Ready l) (z : numberBy l e ≡ 0) where
       → flat (λ i. f (now i)) (slots l) ≡ stored (n * slotOf e) (f new) (flat (λ i. f (old i)) (slots l))
   flat-then n f long new old now h =
       flat-ext (slots l) (λ i q. ap f (h i) ∙ by-case f (here i) new (old i))
-      ∙ sym (stored-flat n (slots l) (slotOf e) (λ i. f (old i)) (f new) (λ i q. long (old i)) (long new) inside)
+      ∙ sym (spliced-flat n (slots l) (slotOf e) (λ i. f (old i)) (f new) (λ i q. long (old i)) (long new) inside)
       ∙ sym (as-part n (slotOf e) (f new) (flat (λ i. f (old i)) (slots l)) (long new))
 
   -- preparing the new list afresh is storing the new slot

@@ -11,10 +11,9 @@ use lib.Dec.{eqb}
 use borrow.Author.Tests.{eqb-true, eq-eqb, ne-eqb}
 use Rattle.rules.specs.Values.{part}
 use Rattle.rules.specs.Lists.{stored}
-use Rattle.laws.specs.Parts.{flat-whole, flat-ext}
-use Rattle.laws.specs.Parts as P
+use Rattle.laws.specs.Parts.{spliced, spliced-length, spliced-part, spliced-others, flat-whole, flat-ext}
 
-pub as-part : {A : Type 0} (n i : ℕ) (x l : List A) → length x ≡ n → stored (n * i) x l ≡ P.stored (n * i) n l x
+pub as-part : {A : Type 0} (n i : ℕ) (x l : List A) → length x ≡ n → stored (n * i) x l ≡ spliced (n * i) n l x
 unfolding stored
 as-part n i x l long = rw long
 
@@ -23,15 +22,15 @@ module _ {A : Type 0} (n k i : ℕ) (x l : List A) (long : length x ≡ n) (whol
   fits = let le : n * i + n ≤ n * k = rw mul-suc at (mul-le-mul-left n inside) in omega arith
 
   pub stored-long : length (stored (n * i) x l) ≡ length l
-  stored-long = ap length (as-part n i x l long) ∙ P.stored-length (n * i) n l x long fits
+  stored-long = ap length (as-part n i x l long) ∙ spliced-length (n * i) n l x long fits
 
   -- part i is what was stored, the others are as they were
   pub stored-at : (t : ℕ) → part n t (stored (n * i) x l) ≡ cond (eqb t i) x (part n t l)
   stored-at t = ap (part n t) (as-part n i x l long) ∙ go (ℕ-discrete t i)
     where
-      go : Dec (t ≡ i) → part n t (P.stored (n * i) n l x) ≡ cond (eqb t i) x (part n t l)
-      go (yes e) = rw (eq-eqb t i e) (ap (λ (u : ℕ). part n u (P.stored (n * i) n l x)) e ∙ P.stored-part n i l x long fits)
-      go (no ne) = rw (ne-eqb t i ne) (P.stored-others n i l x long fits t ne)
+      go : Dec (t ≡ i) → part n t (spliced (n * i) n l x) ≡ cond (eqb t i) x (part n t l)
+      go (yes e) = rw (eq-eqb t i e) (ap (λ (u : ℕ). part n u (spliced (n * i) n l x)) e ∙ spliced-part n i l x long fits)
+      go (no ne) = rw (ne-eqb t i ne) (spliced-others n i l x long fits t ne)
 
 -- two parts stored in either order
 pub stored-swap : {A : Type 0} (n k i j : ℕ) (x y l : List A) → length x ≡ n → length y ≡ n → length l ≡ n * k → i < k → j < k → (i ≡ j → ⊥)

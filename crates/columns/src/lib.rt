@@ -28,7 +28,7 @@ pub(crate) fn moved(q: Running, row: &[i8], window: &[u64], j: usize) -> Running
     if d == 0 {
         return q;
     }
-    let x = limbs::element_at(window, digit::odd_entry(d));
+    let x = flat::element_at(window, digit::odd_entry(d));
     let e = q.element;
     let n = q.additions + 1;
     if d < 0 {

@@ -24,8 +24,8 @@ closed a b = mod-lt _ L-pos
 pub difference-in : (a b : ℕ) → residues .sub a b < L
 difference-in a b = mod-lt _ L-pos
 
-pub double-in : (a : ℕ) → residues .twice a < L
-double-in a = mod-lt _ L-pos
+pub doubling-in : (a : ℕ) → residues .twice a < L
+doubling-in a = mod-lt _ L-pos
 
 pub inverse-in : (a : ℕ) → residues .inv a < L
 inverse-in a = mod-lt _ L-pos

@@ -1,4 +1,4 @@
--- What each contract says, and so one result: digits, limbs, words, answers, the group, lent lists and room.
+-- What each contract says, and so one result: digits, limbs, elements of flat limbs, words, bits, answers, residues, the calls of the group, lent lists, what is asked of them, and room.
 use Prim.Native.Nat.{_%_, _*_, _/_, _^_, min}
 use lib.Dec.{leb}
 use lib.IntN.{natAbs, pos}
@@ -7,13 +7,14 @@ use denote.Ref.{now}
 use Rattle.rules.specs.Asks.{enoughRoom, flaggedContents, flaggedLists, plainContents, plainLists}
 use Rattle.rules.specs.Calls.{groupAdd, groupDouble, groupNegate, groupSubtract}
 use Rattle.rules.specs.Group.{L, added, addedModulo, elements, negated, subtracted, subtractedModulo}
-use Rattle.rules.specs.Helpers.{countedDone, sumDone, valueDone}
+use Rattle.rules.specs.Helpers.{countedDone, fiveWords, sumDone, valueDone, waitingBits}
 use Rattle.rules.specs.Limbs.{carriedDifference, carriedSum}
 use Rattle.rules.specs.Lists.{anyBig, beyondMost, notIn, pairs}
 use Rattle.rules.specs.Loops.{doubled, oddEntry}
 use Rattle.rules.specs.Numbers.{cleared, counted, first, summed, valued}
 use Rattle.rules.specs.Parts.{firstUnits}
-use Rattle.rules.specs.Values.{elementAt, elementOf, limbsOf, number, places, pointAt, valueOf}
+use Rattle.rules.specs.Rows.{recodeRefusal}
+use Rattle.rules.specs.Values.{elementAt, elementOf, limb, limbsOf, number, places, pointAt, valueOf}
 use Rattle.rules.specs.Windows.{anyOver, pointRefusal}
 use Rattle.rules.specs.Claims.{Says}
 use Rattle.arguments.proofs.Contracts.{says}
@@ -41,11 +42,12 @@ one-limbs-plus = says
 pub one-limbs-minus : Says Rattle.limbs.proofs.minus.Reads.Post (λ κ (m, (a, (b, _))). subtractedModulo (valueOf m) a b) (λ κ r _. r)
 one-limbs-minus = says
 
-pub one-limbs-array : Says Rattle.limbs.proofs.array.Reads.Post (λ κ (e, _). limbsOf e) (λ κ r _. r)
-one-limbs-array = says
+-- flat
+pub one-flat-array : Says Rattle.flat.proofs.array.Reads.Post (λ κ (e, _). limbsOf e) (λ κ r _. r)
+one-flat-array = says
 
-pub one-limbs-element-at : Says Rattle.limbs.proofs.element_at.Reads.Post (λ κ (l, (i, _)). elementAt (now l) i) (λ κ r _. r)
-one-limbs-element-at = says
+pub one-flat-element-at : Says Rattle.flat.proofs.element_at.Reads.Post (λ κ (l, (i, _)). elementAt (now l) i) (λ κ r _. r)
+one-flat-element-at = says
 
 -- words
 pub one-words-byte-at : Says Rattle.words.proofs.byte_at.Reads.Post (λ κ (bytes, (k, _)). getD (now bytes) k 0) (λ κ r _. r)
@@ -59,6 +61,19 @@ one-words-byte-of = says
 
 pub one-words-bytes : Says Rattle.words.proofs.bytes.Reads.Post (λ κ (list, _). places 256 32 (pointAt (now list) 0)) (λ κ r _. r)
 one-words-bytes = says
+
+-- bits
+pub one-bits-five-words : Says Rattle.bits.proofs.five_words.Reads.Post (λ κ (scalar, _). fiveWords (now scalar)) (λ κ r _. r)
+one-bits-five-words = says
+
+pub one-bits-power : Says Rattle.bits.proofs.power.Reads.Post (λ κ (w, _). 2 ^ w % limb) (λ κ r _. r)
+one-bits-power = says
+
+pub one-bits-bit-buf : Says Rattle.bits.proofs.bit_buf.Reads.Post (λ κ (x, (at, (w, _))). waitingBits x at w) (λ κ r _. r)
+one-bits-bit-buf = says
+
+pub one-bits-recode-refusal : Says Rattle.bits.proofs.recode_refusal.Reads.Post (λ κ (scalar, (low, (w, _))). recodeRefusal low (now scalar) w) (λ κ r _. r)
+one-bits-recode-refusal = says
 
 -- answer
 pub one-answer-value : Says Rattle.answer.proofs.value.Reads.Post (λ κ (e, _). valueDone e) (λ κ r _. r)
@@ -104,20 +119,21 @@ one-residue-twice = says
 pub one-residue-mul-by-pow-2 : Says Rattle.residue.proofs.mul_by_pow_2.Reads.Post (λ κ (a, (k, _)). doubled elements k a) (λ κ r _. r)
 one-residue-mul-by-pow-2 = says
 
-pub one-residue-point-refusal : Says Rattle.residue.proofs.point_refusal.Reads.Post (λ κ (p, _). pointRefusal (now p)) (λ κ r _. r)
-one-residue-point-refusal = says
+-- group
+pub one-group-point-refusal : Says Rattle.group.proofs.point_refusal.Reads.Post (λ κ (p, _). pointRefusal (now p)) (λ κ r _. r)
+one-group-point-refusal = says
 
-pub one-residue-add : Says Rattle.residue.proofs.add.Reads.Post (λ κ (a, (b, _)). groupAdd (now a) (now b)) (λ κ r _. r)
-one-residue-add = says
+pub one-group-add : Says Rattle.group.proofs.add.Reads.Post (λ κ (a, (b, _)). groupAdd (now a) (now b)) (λ κ r _. r)
+one-group-add = says
 
-pub one-residue-subtract : Says Rattle.residue.proofs.subtract.Reads.Post (λ κ (a, (b, _)). groupSubtract (now a) (now b)) (λ κ r _. r)
-one-residue-subtract = says
+pub one-group-subtract : Says Rattle.group.proofs.subtract.Reads.Post (λ κ (a, (b, _)). groupSubtract (now a) (now b)) (λ κ r _. r)
+one-group-subtract = says
 
-pub one-residue-negate : Says Rattle.residue.proofs.negate.Reads.Post (λ κ (a, _). groupNegate (now a)) (λ κ r _. r)
-one-residue-negate = says
+pub one-group-negate : Says Rattle.group.proofs.negate.Reads.Post (λ κ (a, _). groupNegate (now a)) (λ κ r _. r)
+one-group-negate = says
 
-pub one-residue-double : Says Rattle.residue.proofs.double.Reads.Post (λ κ (a, _). groupDouble (now a)) (λ κ r _. r)
-one-residue-double = says
+pub one-group-double : Says Rattle.group.proofs.double.Reads.Post (λ κ (a, _). groupDouble (now a)) (λ κ r _. r)
+one-group-double = says
 
 -- lent
 pub one-lent-not-whole : Says Rattle.lent.proofs.not_whole.Reads.Post (λ κ (len, (unit, _)). notIn unit len) (λ κ r _. r)
@@ -132,26 +148,27 @@ one-lent-smaller = says
 pub one-lent-pairs : Says Rattle.lent.proofs.pairs.Reads.Post (λ κ (scalars, (points, _)). pairs (now scalars) (now points)) (λ κ r _. r)
 one-lent-pairs = says
 
-pub one-lent-plain-lists : Says Rattle.lent.proofs.plain_lists.Reads.Post (λ κ (scalars, (points, _)). first (plainLists (now scalars) (now points))) (λ κ r _. r)
-one-lent-plain-lists = says
-
-pub one-lent-lists : Says Rattle.lent.proofs.lists.Reads.Post (λ κ (scalars, (points, (flags, _))). first (flaggedLists (now scalars) (now points) (now flags))) (λ κ r _. r)
-one-lent-lists = says
-
-pub one-lent-room : Says Rattle.lent.proofs.room.Reads.Post (λ κ (needed-digits, (digits, (needed-limbs, (limbs, _)))). first (enoughRoom needed-digits digits needed-limbs limbs)) (λ κ r _. r)
-one-lent-room = says
-
 pub one-lent-any-big : Says Rattle.lent.proofs.any_big.Reads.Post (λ κ (scalars, _). anyBig (now scalars)) (λ κ r _. r)
 one-lent-any-big = says
 
 pub one-lent-any-over : Says Rattle.lent.proofs.any_over.Reads.Post (λ κ (limbs, _). anyOver (now limbs)) (λ κ r _. r)
 one-lent-any-over = says
 
-pub one-lent-plain-contents : Says Rattle.lent.proofs.plain_contents.Reads.Post (λ κ (scalars, (points, _)). first (plainContents (now scalars) (now points))) (λ κ r _. r)
-one-lent-plain-contents = says
+-- asks
+pub one-asks-plain-lists : Says Rattle.asks.proofs.plain_lists.Reads.Post (λ κ (scalars, (points, _)). first (plainLists (now scalars) (now points))) (λ κ r _. r)
+one-asks-plain-lists = says
 
-pub one-lent-contents : Says Rattle.lent.proofs.contents.Reads.Post (λ κ (scalars, (points, (flags, (n, _)))). first (flaggedContents (now scalars) (now points) (now flags) n)) (λ κ r _. r)
-one-lent-contents = says
+pub one-asks-lists : Says Rattle.asks.proofs.lists.Reads.Post (λ κ (scalars, (points, (flags, _))). first (flaggedLists (now scalars) (now points) (now flags))) (λ κ r _. r)
+one-asks-lists = says
+
+pub one-asks-room : Says Rattle.asks.proofs.room.Reads.Post (λ κ (needed-digits, (digits, (needed-limbs, (limbs, _)))). first (enoughRoom needed-digits digits needed-limbs limbs)) (λ κ r _. r)
+one-asks-room = says
+
+pub one-asks-plain-contents : Says Rattle.asks.proofs.plain_contents.Reads.Post (λ κ (scalars, (points, _)). first (plainContents (now scalars) (now points))) (λ κ r _. r)
+one-asks-plain-contents = says
+
+pub one-asks-contents : Says Rattle.asks.proofs.contents.Reads.Post (λ κ (scalars, (points, (flags, (n, _)))). first (flaggedContents (now scalars) (now points) (now flags) n)) (λ κ r _. r)
+one-asks-contents = says
 
 -- room
 pub one-room-clear-digits : Says Rattle.room.proofs.clear_digits.Reads.Post (λ κ (digits, (n, _)). cleared (pos 0) n (now digits)) (λ κ _ (digits, _). now digits)

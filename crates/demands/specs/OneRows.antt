@@ -13,17 +13,18 @@ one-scalar-naf-row = says
 pub one-scalar-non-adjacent-form : Says Rattle.scalar.proofs.non_adjacent_form.Reads.Post (λ κ (scalar, (w, _)). nafOf (now scalar) w) (λ κ r _. r)
 one-scalar-non-adjacent-form = says
 
-pub one-scalar-to-radix-2w-size-hint : Says Rattle.scalar.proofs.to_radix_2w_size_hint.Reads.Post (λ κ (w, _). usedPlaces w) (λ κ r _. r)
-one-scalar-to-radix-2w-size-hint = says
+-- radix
+pub one-radix-to-radix-2w-size-hint : Says Rattle.radix.proofs.to_radix_2w_size_hint.Reads.Post (λ κ (w, _). usedPlaces w) (λ κ r _. r)
+one-radix-to-radix-2w-size-hint = says
 
-pub one-scalar-radix-row : Says Rattle.scalar.proofs.radix_row.Reads.Post (λ κ (scalar, (w, _)). radixRowOf (now scalar) w) (λ κ r _. r)
-one-scalar-radix-row = says
+pub one-radix-radix-row : Says Rattle.radix.proofs.radix_row.Reads.Post (λ κ (scalar, (w, _)). radixRowOf (now scalar) w) (λ κ r _. r)
+one-radix-radix-row = says
 
-pub one-scalar-as-radix-2w : Says Rattle.scalar.proofs.as_radix_2w.Reads.Post (λ κ (scalar, (w, _)). radixOf (now scalar) w) (λ κ r _. r)
-one-scalar-as-radix-2w = says
+pub one-radix-as-radix-2w : Says Rattle.radix.proofs.as_radix_2w.Reads.Post (λ κ (scalar, (w, _)). radixOf (now scalar) w) (λ κ r _. r)
+one-radix-as-radix-2w = says
 
-pub one-scalar-as-radix-16 : Says Rattle.scalar.proofs.as_radix_16.Reads.Post (λ κ (scalar, _). radixOf (now scalar) 4) (λ κ r _. r)
-one-scalar-as-radix-16 = says
+pub one-radix-as-radix-16 : Says Rattle.radix.proofs.as_radix_16.Reads.Post (λ κ (scalar, _). radixOf (now scalar) 4) (λ κ r _. r)
+one-radix-as-radix-16 = says
 
 -- reader
 pub one-reader-read-naf : Says Rattle.reader.proofs.read_naf.Reads.Post (λ κ (row, (w, _)). readNaf (now row) w) (λ κ r _. r)

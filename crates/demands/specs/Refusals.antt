@@ -31,9 +31,9 @@ pub group-negate-refuses : (a : List ℕ) → Refuses aValue (pointConditions a)
 unfolding groupNegate pointRefusal
 group-negate-refuses a = value-refuses _ (omega arith) _
 
-pub group-double-refuses : (a : List ℕ) → Refuses aValue (pointConditions a) (groupDouble a)
+pub group-doubling-refuses : (a : List ℕ) → Refuses aValue (pointConditions a) (groupDouble a)
 unfolding groupDouble pointRefusal
-group-double-refuses a = value-refuses _ (omega arith) _
+group-doubling-refuses a = value-refuses _ (omega arith) _
 
 -- rows
 pub naf-refuses : (l : List ℕ) (w : ℕ) → Refuses aNafRow (recodeConditions 2 l w) (nafOf l w)

@@ -6,14 +6,10 @@ use native.Mathlib.Omega.{arith}
 use native.Mathlib.Numerals.{add-one}
 use lib.ListN.{length, getD, set, take, drop, length-append, length-take, length-drop, drop-of-length-le}
 use lib.Seq.{length-take-le, take-all, take-suc, drop-cons, append-snoc, set-at}
-use mir.Syntax.{w64}
-use mir.Val.{Val}
-use denote.Plain.{UInt}
-use denote.Laws.{Is}
-use denote.Array.{Array}
 use Rattle.rules.specs.Lists.{put, joined}
 use Rattle.laws.proofs.Puts.{put-same, put-other}
-use Rattle.laws.proofs.Joined.{joined-length, joined-at, window-each, window-count}
+use Rattle.laws.specs.Parts.{Each}
+use Rattle.laws.proofs.Joined.{joined-length, joined-at}
 
 -- x is copied into a part l₀ of its length: at the place i the part l holds the first i of x
 module _ {A : Type 0} (x l₀ : List A) (h : length l₀ ≡ length x) (i : ℕ) (l : List A) (s : l ≡ take i x ++ drop i l₀) where
@@ -31,26 +27,23 @@ module _ {A : Type 0} (x l₀ : List A) (h : length l₀ ≡ length x) (i : ℕ)
   pub copy-end : length x ≤ i → l ≡ put x l₀
   copy-end k = s ∙ rw (take-all i x k, drop-of-length-le l₀ {i = i} (omega arith)) (append-nil x) ∙ sym (put-same x l₀ h)
 
--- a window of n elements, limb by limb, of u limbs each, into a part of u * n limbs: as above, of its flat list
-module _ (u : ℕ) (some : 0 < u) (n : ℕ) (w : List (List ℕ)) (vs : List Val) (p : Is (Array (Array (UInt w64) u) n) w vs) where
-  long : length (joined w) ≡ u * n
-  long = joined-length u some w (window-each u n w vs p) ∙ ap (λ (k : ℕ). u * k) (window-count u n w vs p)
+-- a window, limb by limb, of u limbs an element, into a part of as many limbs: as above, of its flat list
+module _ (u : ℕ) (some : 0 < u) (w : List (List ℕ)) (each : Each u w) where
+  long : length (joined w) ≡ u * length w
+  long = joined-length u some w each
 
-  pub window-other : (l : List ℕ) → (length l ≡ u * n → ⊥) → l ≡ put (joined w) l
+  pub window-other : (l : List ℕ) → (length l ≡ u * length w → ⊥) → l ≡ put (joined w) l
   window-other l h = sym (put-other (joined w) l (λ e. h (e ∙ long)))
 
-  module _ (l₀ : List ℕ) (h : length l₀ ≡ u * n) (i : ℕ) (l : List ℕ) (s : l ≡ take i (joined w) ++ drop i l₀) where
+  module _ (l₀ : List ℕ) (h : length l₀ ≡ u * length w) (i : ℕ) (l : List ℕ) (s : l ≡ take i (joined w) ++ drop i l₀) where
     same : length l₀ ≡ length (joined w)
     same = h ∙ sym long
 
-    pub window-long : i ≤ u * n → length l ≡ length l₀
-    window-long g = copy-long (joined w) l₀ same i l s (rw long g)
+    pub window-long : i ≤ length l₀ → length l ≡ length l₀
+    window-long g = copy-long (joined w) l₀ same i l s (omega (arith, same))
 
-    pub window-inside : i < u * n → i < length l
-    window-inside g = copy-inside (joined w) l₀ same i l s (rw long g)
+    pub window-turn : i < length l₀ → set l i (getD (getD w (i / u) []) (i % u) 0) ≡ take (i + 1) (joined w) ++ drop (i + 1) l₀
+    window-turn g = copy-turn (joined w) l₀ same i l s 0 (omega (arith, same)) (getD (getD w (i / u) []) (i % u) 0) (joined-at u some w each i (omega (arith, h)))
 
-    pub window-turn : i < u * n → set l i (getD (getD w (i / u) []) (i % u) 0) ≡ take (i + 1) (joined w) ++ drop (i + 1) l₀
-    window-turn g = copy-turn (joined w) l₀ same i l s 0 (rw long g) (getD (getD w (i / u) []) (i % u) 0) (joined-at u some w (window-each u n w vs p) i (rw (window-count u n w vs p) g))
-
-    pub window-end : u * n ≤ i → l ≡ put (joined w) l₀
-    window-end k = copy-end (joined w) l₀ same i l s (rw long k)
+    pub window-end : length l₀ ≤ i → l ≡ put (joined w) l₀
+    window-end k = copy-end (joined w) l₀ same i l s (omega (arith, same))

@@ -15,10 +15,7 @@ use denote.Laws.{Is}
 use denote.Array.{Array, each}
 use denote.Shadow.{shadow}
 use Rattle.rules.specs.Lists.{joined}
-
--- each limb array of a window has u limbs
-abbrev pub Each : ℕ → List (List ℕ) → Type 0
-Each u w = (k : ℕ) → k < length w → length (getD w k []) ≡ u
+use Rattle.laws.specs.Parts.{Each}
 
 module _ (u : ℕ) (some : 0 < u) where
   pub joined-length : (w : List (List ℕ)) → Each u w → length (joined w) ≡ u * length w
@@ -50,10 +47,6 @@ each-long u (x ∷ w) [] p k l = absurd p
 each-long u (x ∷ w) (v ∷ us) p zero l = p .0 .1 .0 .1
 each-long u (x ∷ w) (v ∷ us) p (suc k) l = each-long u w us (p .1) k (omega arith)
 
--- a window of n elements, of a parameter's `.good` or a call's `.ok`
-module _ (u n : ℕ) (w : List (List ℕ)) (vs : List Val) (p : Is (Array (Array (UInt w64) u) n) w vs) where
-  pub window-each : Each u w
-  window-each = each-long u w (p .0) (p .1 .1)
-
-  pub window-count : length w ≡ n
-  window-count = p .1 .0 .1
+-- and of a window of n elements that a call answers
+pub window-each : (u n : ℕ) (w : List (List ℕ)) (vs : List Val) → Is (Array (Array (UInt w64) u) n) w vs → Each u w
+window-each u n w vs p = each-long u w (p .0) (p .1 .1)

@@ -11,7 +11,7 @@ use Rattle.rules.specs.Values.{part, flat}
 use Rattle.rules.specs.Numbers.{cleared}
 use Rattle.rules.specs.Helpers.{laid}
 use Rattle.laws.proofs.Room.{cleared-rest}
-use Rattle.laws.specs.Parts.{stored, within, flat-more, flat-length, flat-part, flat-ext}
+use Rattle.laws.specs.Parts.{spliced, within, flat-more, flat-length, flat-part, flat-ext}
 
 module _ {A : Type 0} (n : ℕ) (f : ℕ → List A) where
   pub laid-none : (l : List A) → laid n f 0 l ≡ l
@@ -20,7 +20,7 @@ module _ {A : Type 0} (n : ℕ) (f : ℕ → List A) where
 
   module _ (i : ℕ) (l : List A) (long : (j : ℕ) → j < i → length (f j) ≡ n) where
     -- one part more
-    pub laid-more : stored (n * i) n (laid n f i l) (f i) ≡ laid n f (i + 1) l
+    pub laid-more : spliced (n * i) n (laid n f i l) (f i) ≡ laid n f (i + 1) l
     unfolding laid
     laid-more =
         ap₂ (λ (s t : List A). s ++ (f i ++ drop n t))
@@ -36,7 +36,7 @@ module _ {A : Type 0} (n : ℕ) (f : ℕ → List A) where
     pub laid-turn : (d ys : List A) → d ≡ laid n f i l → ys ≡ f i → take (n * i) d ++ (ys ++ drop (n * i + n - n * i) (drop (n * i) d)) ≡ laid n f (i + 1) l
     laid-turn d ys e q =
         ap (λ (k : ℕ). take (n * i) d ++ (ys ++ drop k (drop (n * i) d))) (add-sub-cancel-left (n * i) n)
-        ∙ ap₂ (stored (n * i) n) e q
+        ∙ ap₂ (spliced (n * i) n) e q
         ∙ laid-more
 
     pub laid-length : n * i ≤ length l → length (laid n f i l) ≡ length l

@@ -5,7 +5,7 @@ use Prim.Native.Nat.{ℕ, zero, suc, _+_, _-_, _*_, _/_, _%_, _^_, _≤_, _<_}
 use native.Mathlib.Nat.{zero-mul, mul-add, add-mul, mul-comm, one-mul, pow-succ', add-zero, zero-add, suc-add, mul-add-div-right, div-add-mod, div-add-mod', mod-lt, div-eq-of-lt, div-eq-of-lt-le, mod-eq-of-lt, mod-add-mod, mod-self, div-lt-iff-lt-mul}
 use native.Mathlib.Omega.{arith}
 use native.Mathlib.Decide.{decLt}
-use lib.Pow.{pow-pos, pow-add, shr-shr, mod-mod-pow}
+use lib.Pow.{pow-pos, pow-mono, pow-add, shr-shr, mod-mod-pow}
 use lib.IntN.{ℤ, pos, negsuc, natAbs, subℕ}
 use lib.Signed.{mag}
 use lib.Dec.{ltb}
@@ -44,6 +44,17 @@ window-low w v h l = rw (carry-low w v h l, zero-mul (2 ^ w), le-ltb v 0 (omega 
 
 pub window-high : (w v : ℕ) → 1 ≤ w → 2 ^ (w - 1) ≤ v → v ≤ 2 ^ w → subℕ v (carry w v * 2 ^ w) ≡ subℕ v (2 ^ w)
 window-high w v h a b = rw (carry-high w v h a b, one-mul (2 ^ w))
+
+-- a window of at most eight bits less what it carries out is from -128 to 127
+pub near : (w v : ℕ) → 1 ≤ w → w ≤ 8 → v ≤ 2 ^ w → (carry w v * 2 ^ w ≤ 256) × ((carry w v * 2 ^ w ≤ v + 128) × (v < carry w v * 2 ^ w + 128))
+near w v lo hi le = go (decLt v (2 ^ (w - 1)))
+  where
+    half : 2 ^ (w - 1) ≤ 128
+    half = pow-mono {i = w - 1} {j = 7} (omega arith)
+
+    go : Dec (v < 2 ^ (w - 1)) → (carry w v * 2 ^ w ≤ 256) × ((carry w v * 2 ^ w ≤ v + 128) × (v < carry w v * 2 ^ w + 128))
+    go (yes l) = rw (carry-low w v lo l, zero-mul (2 ^ w)) (omega (arith, half))
+    go (no l) = rw (carry-high w v lo (omega arith) le, one-mul (2 ^ w)) (omega (arith, half, wide w lo))
 
 -- a carry c comes in at the lowest bit of m: the window and c say what is carried out
 pub above-window : (w m c : ℕ) → above w (m + c) ≡ m / 2 ^ w + carry w (m % 2 ^ w + c)

@@ -1,7 +1,7 @@
 -- Parts of flat lists: reading one, storing one, and the flat list of equal parts.
 use mathlib.Core.Path.{_≡_, refl, sym, ap, ap₂, _∙_}
 use mathlib.Core.Bool.{cond}
-use mathlib.Core.List.{List, _++_}
+use mathlib.Core.List.{List, [], _++_}
 use Prim.Native.Nat.{ℕ, zero, suc, _+_, _-_, _*_, _<_, _≤_}
 use native.Mathlib.Nat.{add-sub-cancel-left, mul-suc, mul-zero, mul-le-mul-left, le-step, lt-suc-self}
 use native.Mathlib.Decide.{decLt, ℕ-discrete}
@@ -16,25 +16,29 @@ use Rattle.rules.specs.Values.{part, flat}
 pub within : {A : Type 0} (k j : ℕ) (xs ys : List A) → j + k ≤ length xs → take k (drop j (xs ++ ys)) ≡ take k (drop j xs)
 within k j xs ys h = ap (take k) (drop-append-le j xs ys (omega arith)) ∙ take-append-le k (drop j xs) ys (simp length-drop (omega arith))
 
--- ys stored at a into l, in place of n
-abbrev pub stored : {A : Type 0} → ℕ → ℕ → List A → List A → List A
-stored a n l ys = take a l ++ (ys ++ drop n (drop a l))
+-- each list in a list of lists has u elements
+abbrev pub Each : {A : Type 0} → ℕ → List (List A) → Type 0
+Each u w = (k : ℕ) → k < length w → length (getD w k []) ≡ u
+
+-- ys in place of n elements of l from a on
+abbrev pub spliced : {A : Type 0} → ℕ → ℕ → List A → List A → List A
+spliced a n l ys = take a l ++ (ys ++ drop n (drop a l))
 
 module _ {A : Type 0} (a n : ℕ) (l ys : List A) (long : length ys ≡ n) (fits : a + n ≤ length l) where
   front : length (take a l) ≡ a
   front = length-take-le a l (omega arith)
 
-  pub stored-length : length (stored a n l ys) ≡ length l
-  stored-length = simp (length-append, length-drop) (omega (arith, front))
+  pub spliced-length : length (spliced a n l ys) ≡ length l
+  spliced-length = simp (length-append, length-drop) (omega (arith, front))
 
   -- the list from its end on is as it was
-  pub stored-rest : (m : ℕ) → a + n ≤ m → drop m (stored a n l ys) ≡ drop m l
-  stored-rest m h =
+  pub spliced-rest : (m : ℕ) → a + n ≤ m → drop m (spliced a n l ys) ≡ drop m l
+  spliced-rest m h =
       let e : a + n + (m - (a + n)) ≡ m = omega arith in
-      ap (λ (k : ℕ). drop k (stored a n l ys)) (sym e)
-      ∙ sym (drop-drop (m - (a + n)) (a + n) (stored a n l ys))
+      ap (λ (k : ℕ). drop k (spliced a n l ys)) (sym e)
+      ∙ sym (drop-drop (m - (a + n)) (a + n) (spliced a n l ys))
       ∙ ap (drop (m - (a + n)))
-      (sym (drop-drop n a (stored a n l ys))
+      (sym (drop-drop n a (spliced a n l ys))
       ∙ ap (drop n) (drop-at (take a l) (ys ++ drop n (drop a l)) a front)
       ∙ drop-at ys (drop n (drop a l)) n long
       ∙ drop-drop n a l)
@@ -110,22 +114,22 @@ module _ {A : Type 0} where
   pub flat-whole : (n k : ℕ) (l : List A) → length l ≡ n * k → flat (λ i. part n i l) k ≡ l
   flat-whole n k l e = flat-parts n l k (omega arith) ∙ ap (λ (j : ℕ). take j l) (sym e) ∙ take-length l
 
--- a part of n places stored in place of part i
+-- n elements in place of part i
 module _ {A : Type 0} (n i : ℕ) (l ys : List A) (long : length ys ≡ n) (fits : n * i + n ≤ length l) where
   to-part : length (take (n * i) l) ≡ n * i
   to-part = length-take-le (n * i) l (omega arith)
 
-  pub stored-part : part n i (stored (n * i) n l ys) ≡ ys
+  pub spliced-part : part n i (spliced (n * i) n l ys) ≡ ys
   unfolding part
-  stored-part =
+  spliced-part =
       ap (take n) (drop-at (take (n * i) l) (ys ++ drop n (drop (n * i) l)) (n * i) to-part) ∙ take-at ys (drop n (drop (n * i) l)) n long
 
   -- the others are as they were
-  pub stored-others : (j : ℕ) → (j ≡ i → ⊥) → part n j (stored (n * i) n l ys) ≡ part n j l
+  pub spliced-others : (j : ℕ) → (j ≡ i → ⊥) → part n j (spliced (n * i) n l ys) ≡ part n j l
   unfolding part
-  stored-others j ne = go (decLt j i)
+  spliced-others j ne = go (decLt j i)
     where
-      go : Dec (j < i) → take n (drop (n * j) (stored (n * i) n l ys)) ≡ take n (drop (n * j) l)
+      go : Dec (j < i) → take n (drop (n * j) (spliced (n * i) n l ys)) ≡ take n (drop (n * j) l)
       go (yes p) =
           let le : n * j + n ≤ n * i = rw mul-suc at (mul-le-mul-left n p) in
           within n (n * j) (take (n * i) l) (ys ++ drop n (drop (n * i) l)) (omega (arith, to-part))
@@ -134,13 +138,13 @@ module _ {A : Type 0} (n i : ℕ) (l ys : List A) (long : length ys ≡ n) (fits
       go (no p) =
           let lt : i < j = omega arith in
           let le : n * i + n ≤ n * j = rw mul-suc at (mul-le-mul-left n lt) in
-          ap (take n) (stored-rest (n * i) n l ys long fits (n * j) le)
+          ap (take n) (spliced-rest (n * i) n l ys long fits (n * j) le)
 
 -- a flat list with part i replaced
-pub stored-flat : {A : Type 0} (n k i : ℕ) (f : ℕ → List A) (ys : List A) → ((j : ℕ) → j < k → length (f j) ≡ n) → length ys ≡ n → i < k
-    → stored (n * i) n (flat f k) ys ≡ flat (λ j. cond (eqb j i) ys (f j)) k
-stored-flat {A} n k i f ys h long p =
-    sym (flat-whole n k (stored (n * i) n (flat f k) ys) (stored-length (n * i) n (flat f k) ys long fits ∙ len))
+pub spliced-flat : {A : Type 0} (n k i : ℕ) (f : ℕ → List A) (ys : List A) → ((j : ℕ) → j < k → length (f j) ≡ n) → length ys ≡ n → i < k
+    → spliced (n * i) n (flat f k) ys ≡ flat (λ j. cond (eqb j i) ys (f j)) k
+spliced-flat {A} n k i f ys h long p =
+    sym (flat-whole n k (spliced (n * i) n (flat f k) ys) (spliced-length (n * i) n (flat f k) ys long fits ∙ len))
     ∙ flat-ext k (λ j q. go j q (ℕ-discrete j i))
   where
     len : length (flat f k) ≡ n * k
@@ -149,8 +153,8 @@ stored-flat {A} n k i f ys h long p =
     fits : n * i + n ≤ length (flat f k)
     fits = let le : n * i + n ≤ n * k = rw mul-suc at (mul-le-mul-left n p) in omega (arith, len)
 
-    go : (j : ℕ) → j < k → Dec (j ≡ i) → part n j (stored (n * i) n (flat f k) ys) ≡ cond (eqb j i) ys (f j)
+    go : (j : ℕ) → j < k → Dec (j ≡ i) → part n j (spliced (n * i) n (flat f k) ys) ≡ cond (eqb j i) ys (f j)
     go j q (yes e) =
         rw (eq-eqb j i e)
-        (ap (λ (t : ℕ). part n t (stored (n * i) n (flat f k) ys)) e ∙ stored-part n i (flat f k) ys long fits)
-    go j q (no ne) = rw (ne-eqb j i ne) (stored-others n i (flat f k) ys long fits j ne ∙ flat-part n f k j h q)
+        (ap (λ (t : ℕ). part n t (spliced (n * i) n (flat f k) ys)) e ∙ spliced-part n i (flat f k) ys long fits)
+    go j q (no ne) = rw (ne-eqb j i ne) (spliced-others n i (flat f k) ys long fits j ne ∙ flat-part n f k j h q)

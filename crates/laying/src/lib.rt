@@ -38,7 +38,7 @@ fn row(scalar: &[u8], kind: Row, part: &mut [i8])
 {
     match kind {
         Row::Naf(w) => copy_digits(&mut *part, &scalar::naf_row(scalar, w)),
-        Row::Radix(w) => copy_digits(&mut *part, &scalar::radix_row(scalar, w)),
+        Row::Radix(w) => copy_digits(&mut *part, &radix::radix_row(scalar, w)),
     }
 }
 
@@ -93,7 +93,7 @@ pub fn windows(points: &[u64], n: usize, kind: Window, limbs: &mut [u64]) -> Cou
     while i < m {
         let a = unit * i;
         let e = a + unit;
-        let made = window(limbs::element_at(points, i), kind, &mut limbs[a..e]);
+        let made = window(flat::element_at(points, i), kind, &mut limbs[a..e]);
         additions += made.additions;
         doublings += made.doublings;
         i += 1;

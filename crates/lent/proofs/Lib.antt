@@ -1,3 +1,2 @@
 pub mod TopByte
 pub mod Passed
-mod Points

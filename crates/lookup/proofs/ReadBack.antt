@@ -19,7 +19,7 @@ use Rattle.laws.specs.Windows.{selected-ext, selectedOdd-ext, successive-in, od
 use Rattle.laws.specs.Carried.{successive-carry, selected-carry}
 use Rattle.residue.proofs.Members.{Member}
 use Rattle.residue.proofs.Laws.{carries, group}
-use Rattle.residue.proofs.Answers.{point-tested}
+use Rattle.group.proofs.Answers.{point-tested}
 use Rattle.window.proofs.Flat.{elements-at, limbs-length, limbs-at}
 use Rattle.lookup.proofs.Lookups.{near, near-odd, named, tested}
 

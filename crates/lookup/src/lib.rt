@@ -18,7 +18,7 @@ fn passed(window: &[u64], a: usize) -> Element
     let mut t = residue::identity();
     let mut j: usize = 0;
     while j < 8 {
-        let e = limbs::element_at(window, j);
+        let e = flat::element_at(window, j);
         j += 1;
         if a == j {
             t = e;
@@ -77,7 +77,7 @@ fn select_naf(window: &[u64], d: i8, n: usize) -> Value
     if number != 0 {
         return answer::refused_value(number);
     }
-    answer::value(by_sign(d, limbs::element_at(window, digit::odd_entry(d))))
+    answer::value(by_sign(d, flat::element_at(window, digit::odd_entry(d))))
 }
 
 // NAF lookup in a lent window of width 5.

@@ -38,7 +38,7 @@ fn put(row: &[i8], j: usize, p: Element, buckets: &mut [u64]) -> u64
         return 0;
     }
     let k = digit::magnitude(d) - 1;
-    let b = limbs::element_at(buckets, k);
+    let b = flat::element_at(buckets, k);
     if d < 0 {
         store(&mut *buckets, k, residue::minus(b, p));
         return 1;
@@ -57,12 +57,7 @@ fn put_all(digits: &[i8], points: &[u64], m: usize, j: usize, buckets: &mut [u64
     while i < m {
         let a = 64 * i;
         let e = a + 64;
-        additions += put(
-            &digits[a..e],
-            j,
-            limbs::element_at(points, i),
-            &mut *buckets,
-        );
+        additions += put(&digits[a..e], j, flat::element_at(points, i), &mut *buckets);
         i += 1;
     }
     additions
@@ -73,7 +68,7 @@ fn sum_buckets(buckets: &[u64], n: usize) -> Walk
     requires { ⌜ (1 < n) × (4 * n ≤ length (now buckets)) ⌝ }
     ensures { λ r. ⌜ (r .element ≡ bucketSum elements (elementAt (was buckets)) (n - 1)) × ((r .additions ≡ 2 * (n - 1)) × (r .doublings ≡ 0)) ⌝ }
 {
-    let mut buckets_intermediate_sum = limbs::element_at(buckets, n - 1);
+    let mut buckets_intermediate_sum = flat::element_at(buckets, n - 1);
     let mut buckets_sum = buckets_intermediate_sum;
     let mut additions: u64 = 0;
     let mut i = n - 1;
@@ -81,7 +76,7 @@ fn sum_buckets(buckets: &[u64], n: usize) -> Walk
         i -= 1;
         buckets_intermediate_sum = residue::plus(
             buckets_intermediate_sum,
-            limbs::element_at(buckets, i),
+            flat::element_at(buckets, i),
         );
         buckets_sum = residue::plus(buckets_sum, buckets_intermediate_sum);
         additions += 2;

@@ -34,17 +34,17 @@ fn picked_by(scalars: &[u8], points: &[u64]) -> usize
 fn refusal(scalars: &[u8], points: &[u64], flags: &[u8], digits: usize, buckets: usize) -> u8
     ensures { λ r. ⌜ r ≡ pippengerRefusal (was scalars) (was points) (was flags) digits buckets ⌝ }
 {
-    let n = lent::lists(scalars, points, flags);
+    let n = asks::lists(scalars, points, flags);
     if n != 0 {
         return n;
     }
     let m = lent::pairs(scalars, points);
     let limbs = 4 * buckets_count(width(picked_by(scalars, points)));
-    let k = lent::room(64 * m, digits, limbs, buckets);
+    let k = asks::room(64 * m, digits, limbs, buckets);
     if k != 0 {
         return k;
     }
-    lent::contents(scalars, points, flags, m)
+    asks::contents(scalars, points, flags, m)
 }
 
 // The sum of scalar times point over all pairs; an absent point past the last scalar is ignored.

@@ -23,7 +23,7 @@ pub(crate) fn walk(digits: &[i8], points: &[u64], m: usize, w: usize, buckets: &
     ensures { λ r. ⌜ Walked elements 4 (was digits) (elementAt (was points)) m w (was buckets) (is buckets) (r .element) (r .additions) (r .doublings) ⌝ }
 {
     let n = buckets_count(w);
-    let c = scalar::to_radix_2w_size_hint(w);
+    let c = radix::to_radix_2w_size_hint(w);
     let hi_column = column(digits, points, m, c - 1, n, &mut *buckets);
     let mut q = hi_column.element;
     let mut additions = hi_column.additions;

@@ -4,19 +4,24 @@ ghost use lib.ListN.{length};
 ghost use Rattle.rules.specs.Lent.{was, is};
 ghost use Rattle.rules.specs.Engines.{after, afterNew, newTables, mixed};
 ghost use Rattle.precomputed_straus.specs.Fill.{Ready, mixedWalk};
+// The most static points: more are refused by 2.
+pub use lent::MOST_STATIC;
 use rules::Counted;
 use rules::Row;
 use rules::Sum;
 use rules::Walk;
 use rules::Window;
 
-pub(crate) mod asks;
+pub(crate) mod refusals;
+
+// Limbs of a static point's table: 1P, 3P, .. 127P.
+pub const TABLE_LIMBS: usize = 256;
 
 // The static tables of points without flags.
 pub fn new(points: &[u64], tables: &mut [u64]) -> Counted
     ensures { λ r. ⌜ afterNew r (is tables) ≡ newTables (was points) (was tables) ⌝ }
 {
-    let number = crate::asks::new_refusal(points, tables.len());
+    let number = crate::refusals::new_refusal(points, tables.len());
     if number != 0 {
         return answer::refused_counted(number);
     }
@@ -64,7 +69,7 @@ pub fn optional_mixed_multiscalar_mul(
 ) -> Sum
     ensures { λ r. ⌜ after r (is digits) (is limbs) ≡ mixed (was tables) (was «static_scalars») (was «dynamic_scalars») (was «dynamic_points») (was «dynamic_flags») (was digits) (was limbs) ⌝ }
 {
-    let number = crate::asks::mixed_refusal(
+    let number = crate::refusals::mixed_refusal(
         tables,
         static_scalars,
         dynamic_scalars,

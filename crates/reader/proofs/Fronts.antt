@@ -11,7 +11,7 @@ use Rattle.rules.specs.Values.{places}
 use Rattle.rules.specs.Numbers.{first, bytesAnswer}
 use Rattle.rules.specs.Rows.{notLong, widthOff, noScalar}
 use Rattle.laws.specs.Conditions.{first-none, given-done, given-refused, given-same}
-use Rattle.scalar.proofs.Fronts.{is-long, long-is}
+use Rattle.bits.proofs.Refusals.{is-long, long-is}
 use Rattle.reader.specs.Readers.{shapeRefusal}
 
 pub shape-passed : (n low : ℕ) (row : List ℤ) (w : ℕ) → 0 ≡ shapeRefusal n low row w → (length row ≡ n) × (widthOff low w ≡ false)

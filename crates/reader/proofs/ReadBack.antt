@@ -18,7 +18,7 @@ use Rattle.laws.specs.RadixRows.{radix-length}
 use Rattle.laws.specs.RowsRule.{naf-obeys, radix-sum}
 use Rattle.laws.specs.RowsRead.{naf-reads, radix-reads}
 use Rattle.laws.proofs.Numerals.{places-length, number-places}
-use Rattle.scalar.proofs.Fronts.{within, width-in, is-long, long-is, passed}
+use Rattle.bits.proofs.Refusals.{within, width-in, is-long, long-is, passed}
 use Rattle.reader.proofs.Fronts.{readRefusal}
 use Rattle.reader.proofs.Reading.{bound-room}
 

@@ -19,7 +19,7 @@ use Rattle.laws.specs.Conditions.{any-at, any-end, given-done}
 use Rattle.laws.specs.DigitsSum.{minus, weigh, balance}
 use Rattle.laws.proofs.Numerals.{places-length}
 use Rattle.laws.specs.RowsRead.{same-digit, same-row, same-row-search}
-use Rattle.scalar.proofs.Fronts.{is-long}
+use Rattle.bits.proofs.Refusals.{is-long}
 use Rattle.reader.specs.Readers.{shapeRefusal, comparedRows}
 use Rattle.reader.specs.Sums.{SaysBytes}
 use Rattle.reader.proofs.Fronts.{shape-passed, readRefusal, read-none, read-found}

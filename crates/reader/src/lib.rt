@@ -66,7 +66,7 @@ fn row_sum(row: &[i8], w: usize) -> Element
 fn row_bytes(row: &[i8], w: usize) -> [u8; 32]
     ensures { λ r. ⌜ SaysBytes w (was row) r ⌝ }
 {
-    let limbs = limbs::array(row_sum(row, w));
+    let limbs = flat::array(row_sum(row, w));
     words::bytes(&limbs)
 }
 
@@ -154,7 +154,7 @@ pub fn read_radix(row: &[i8], w: usize) -> ScalarBytes
         return refused(number);
     }
     let bytes = row_bytes(row, w);
-    let radix = scalar::as_radix_2w(&bytes, w);
+    let radix = radix::as_radix_2w(&bytes, w);
     let again = radix.row;
     compared(row, radix.number, &again, bytes)
 }

@@ -42,7 +42,7 @@ fn plain(
 ) -> usize {
     let l = parts::limbs(limbs, 0, n[4]);
     if code < 5 {
-        return elements::group(code, l, parts::limbs(limbs, 33024, n[5]), out, at);
+        return elements::group(code, l, parts::limbs(limbs, parts::LIMBS, n[5]), out, at);
     }
     if code < 10 {
         return rows::answer(code, parts::bytes(bytes, 0, n[1]), digits, n[8], out, at);

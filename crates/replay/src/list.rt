@@ -5,6 +5,7 @@ use crate::input::bad_if;
 use crate::input::next;
 use crate::input::number;
 use crate::input::with_number;
+use crate::parts::DIGITS;
 
 // A list that is being read: how many elements it has, its mode, the element that is repeated, how many exceptions are to come and the place of the next, and what follows, with the element read last in hand.
 pub(crate) struct Elements {
@@ -39,7 +40,7 @@ fn head(input: &mut [u8], most: usize, s: State) -> Elements
     let s = next(input, s);
     let mode = s.number;
     if n <= most {
-        if n <= 525056 {
+        if n <= DIGITS {
             return unread(n, mode, bad_if(s, mode > 2));
         }
     }

@@ -17,25 +17,28 @@ use input::start;
 use input::with_put;
 use output::flush;
 use output::malformed;
+use parts::BYTES;
+use parts::DIGITS;
+use parts::LIMBS;
 
 // Room for three lists of bytes or flags.
-fn bytes() -> [u8; 98496] {
-    [0; 98496]
+fn bytes() -> [u8; 3 * BYTES] {
+    [0; 3 * BYTES]
 }
 
 // Room for two lists of limbs.
-fn limbs() -> [u64; 66048] {
-    [0; 66048]
+fn limbs() -> [u64; 2 * LIMBS] {
+    [0; 2 * LIMBS]
 }
 
 // Room for digits that a call may write.
-fn digits() -> [i8; 525056] {
-    [0; 525056]
+fn digits() -> [i8; DIGITS] {
+    [0; DIGITS]
 }
 
 // Room for limbs that a call may write.
-fn windows() -> [u64; 33024] {
-    [0; 33024]
+fn windows() -> [u64; LIMBS] {
+    [0; LIMBS]
 }
 
 // A case whose code is in hand; case number k.

@@ -1,4 +1,3 @@
 pub mod Reduction
 pub mod Members
 pub mod Laws
-pub mod Answers

@@ -1,8 +1,3 @@
--- Facts that several proofs of this crate cite.
-pub mod Bits
-pub mod Fronts
+-- Facts that several proofs cite, in this crate and above it.
 pub mod Ints
-pub mod Top
-pub mod NafTurn
-pub mod NibbleTurn
-pub mod RadixTurn
+mod NafTurn

@@ -5,6 +5,7 @@ use Prim.Native.Nat.{ℕ, _+_, _-_, _*_, _/_, _%_, _^_, _≤_, _<_}
 use native.Mathlib.Nat.{zero-mul, one-mul, mod-lt}
 use native.Mathlib.Omega.{arith}
 use native.Mathlib.Decide.{decLt, ℕ-discrete}
+use lib.Bits.{bitAnd, and-mask}
 use lib.ListN.{length, set, replicate, length-set}
 use lib.Seq.{getD-set-same, getD-set-other, ext-getD}
 use lib.Pow.{pow-pos, pow-mono}
@@ -94,3 +95,13 @@ module _ (w : ℕ) (lo : 2 ≤ w) (hi : w ≤ 8) (N : ℕ) (row : List ℤ) (b c
 
     pub put-high : F / 2 ≤ v → x ≡ wrapped v F → k ≡ 1 → Done w N row′ (b + w) k
     put-high l g z = rw (stored, z) (put x 1 odd (sym (carry-high w v (omega arith) (omega (arith, half)) window-le)) (g ∙ rw (full, one-mul)))
+
+-- the lowest bit
+pub even-bit : (x : ℕ) → bitAnd x 1 ≡ 0 → x % 2 ≡ 0
+even-bit x e = sym (and-mask x 1) ∙ e
+
+pub odd-bit : (x : ℕ) → (bitAnd x 1 ≡ 0 → ⊥) → x % 2 ≡ 1
+odd-bit x n = other (λ e. n (and-mask x 1 ∙ e))
+  where
+    other : (x % 2 ≡ 0 → ⊥) → x % 2 ≡ 1
+    other h = omega arith

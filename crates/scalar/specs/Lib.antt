@@ -1,3 +1,1 @@
-pub mod Nibbles
-pub mod Words
 pub mod Wrap

@@ -1,26 +1,30 @@
 // The bench sheet: runs its unstarred cases and prints `name number result`.
+use batch::POINT_LIMBS;
+use batch::SCALAR_BYTES;
+use batch::SLOT_DIGITS;
+use batch::SLOT_LIMBS;
 use libc::STDOUT_FILENO;
 use rules::Element;
 use rules::OptionalPoint;
 use rules::Sum;
 
 // L, the group's order.
-fn order() -> [u64; 4] {
-    limbs::array(residue::order())
+fn order() -> [u64; POINT_LIMBS] {
+    flat::array(residue::order())
 }
 
 // The 32 bytes of four limbs as 64 hex digits.
-fn print(value: [u64; 4]) {
+fn print(value: [u64; POINT_LIMBS]) {
     let bytes = words::bytes(&value);
     let mut k: usize = 0;
-    while k < 32 {
+    while k < SCALAR_BYTES {
         io::print_hex(STDOUT_FILENO, bytes[k] as u64, 2);
         k += 1;
     }
 }
 
 // One line: the case's name, the number, the result.
-fn line(name: &[u8], number: u8, value: [u64; 4]) {
+fn line(name: &[u8], number: u8, value: [u64; POINT_LIMBS]) {
     io::write_all(STDOUT_FILENO, name);
     io::write_all(STDOUT_FILENO, b" ");
     io::print_decimal(STDOUT_FILENO, number as u64);
@@ -37,8 +41,8 @@ fn sum(name: &[u8], r: Sum) {
 
 // The line of NAF Straus on up to two pairs.
 fn naf_straus(name: &[u8], scalars: &[u8], points: &[u64], flags: &[u8]) {
-    let mut digits = [0i8; 512];
-    let mut limbs = [0u64; 64];
+    let mut digits = [0i8; 2 * SLOT_DIGITS];
+    let mut limbs = [0u64; 2 * SLOT_LIMBS];
     sum(
         name,
         straus::optional_multiscalar_mul(scalars, points, flags, &mut digits, &mut limbs),
@@ -63,9 +67,9 @@ fn e4() {
 
 // E5: (1, 1) twice.
 fn e5() {
-    let mut scalars = [0u8; 64];
+    let mut scalars = [0u8; 2 * SCALAR_BYTES];
     scalars[0] = 1;
-    scalars[32] = 1;
+    scalars[SCALAR_BYTES] = 1;
     let points = [1u64, 0, 0, 0, 1, 0, 0, 0];
     let flags = [1u8, 1];
     naf_straus(b"E5", &scalars, &points, &flags);
@@ -73,9 +77,9 @@ fn e5() {
 
 // E6: scalars 2, 5 and point 3.
 fn e6() {
-    let mut scalars = [0u8; 64];
+    let mut scalars = [0u8; 2 * SCALAR_BYTES];
     scalars[0] = 2;
-    scalars[32] = 5;
+    scalars[SCALAR_BYTES] = 5;
     let points = [3u64, 0, 0, 0];
     let flags = [1u8];
     naf_straus(b"E6", &scalars, &points, &flags);
@@ -83,7 +87,7 @@ fn e6() {
 
 // E7: scalar 2, points 3 and absent: NAF Straus, then Pippenger.
 fn e7() {
-    let mut scalars = [0u8; 32];
+    let mut scalars = [0u8; SCALAR_BYTES];
     scalars[0] = 2;
     let points = [3u64, 0, 0, 0, 0, 0, 0, 0];
     let flags = [1u8, 0];
@@ -98,12 +102,12 @@ fn e7() {
 
 // E8: scalar 2^255 with point 1, then scalar 1 with point L.
 fn e8() {
-    let mut scalars = [0u8; 32];
-    scalars[31] = 128;
+    let mut scalars = [0u8; SCALAR_BYTES];
+    scalars[SCALAR_BYTES - 1] = 128;
     let points = [1u64, 0, 0, 0];
     let flags = [1u8];
     naf_straus(b"E8a", &scalars, &points, &flags);
-    let mut scalars = [0u8; 32];
+    let mut scalars = [0u8; SCALAR_BYTES];
     scalars[0] = 1;
     let points = order();
     naf_straus(b"E8b", &scalars, &points, &flags);
@@ -111,10 +115,10 @@ fn e8() {
 
 // E9: double base a = 2, A = 3, b = 4.
 fn e9() {
-    let mut a = [0u8; 32];
+    let mut a = [0u8; SCALAR_BYTES];
     a[0] = 2;
     let point = [3u64, 0, 0, 0];
-    let mut b = [0u8; 32];
+    let mut b = [0u8; SCALAR_BYTES];
     b[0] = 4;
     sum(b"E9", vartime_double_base::mul(&a, &point, &b));
 }
@@ -131,22 +135,22 @@ fn one() -> OptionalPoint {
 
 // B1: the pairs of E1 prepared; slot 1 set to (1, 1), slot 0 cleared, slot 2 refused.
 fn b1() {
-    let mut scalars = [0u8; 64];
+    let mut scalars = [0u8; 2 * SCALAR_BYTES];
     scalars[0] = 2;
-    scalars[32] = 5;
+    scalars[SCALAR_BYTES] = 5;
     let points = [3u64, 0, 0, 0, 7, 0, 0, 0];
     let flags = [1u8, 1];
-    let mut digits = [0i8; 512];
-    let mut windows = [0u64; 64];
+    let mut digits = [0i8; 2 * SLOT_DIGITS];
+    let mut windows = [0u64; 2 * SLOT_LIMBS];
     batch::prepare(&scalars, &points, &flags, &mut digits, &mut windows);
-    let mut scalar = [0u8; 32];
+    let mut scalar = [0u8; SCALAR_BYTES];
     scalar[0] = 1;
     batch::set(&mut digits, &mut windows, 1, &scalar, one());
     sum(b"B1a", batch::total(&digits, &windows));
     batch::clear(&mut digits, &mut windows, 0);
     sum(b"B1b", batch::total(&digits, &windows));
     let r = batch::set(&mut digits, &mut windows, 2, &scalar, one());
-    line(b"B1c", r.number, [0u64; 4]);
+    line(b"B1c", r.number, [0u64; POINT_LIMBS]);
 }
 
 fn main() {

@@ -13,14 +13,14 @@ pub(crate) fn refusal(
 ) -> u8
     ensures { λ r. ⌜ r ≡ nafStrausRefusal (was scalars) (was points) (was flags) digits limbs ⌝ }
 {
-    let n = lent::lists(scalars, points, flags);
+    let n = asks::lists(scalars, points, flags);
     if n != 0 {
         return n;
     }
     let m = lent::pairs(scalars, points);
-    let k = lent::room(256 * m, digits, 32 * m, limbs);
+    let k = asks::room(256 * m, digits, 32 * m, limbs);
     if k != 0 {
         return k;
     }
-    lent::contents(scalars, points, flags, points.len() / 4)
+    asks::contents(scalars, points, flags, points.len() / 4)
 }

@@ -16,16 +16,16 @@ use rules::Walk;
 pub(crate) fn refusal(scalars: &[u8], points: &[u64], digits: usize, limbs: usize) -> u8
     ensures { λ r. ⌜ r ≡ radixStrausRefusal (was scalars) (was points) digits limbs ⌝ }
 {
-    let n = lent::plain_lists(scalars, points);
+    let n = asks::plain_lists(scalars, points);
     if n != 0 {
         return n;
     }
     let m = lent::pairs(scalars, points);
-    let k = lent::room(64 * m, digits, 32 * m, limbs);
+    let k = asks::room(64 * m, digits, 32 * m, limbs);
     if k != 0 {
         return k;
     }
-    lent::plain_contents(scalars, points)
+    asks::plain_contents(scalars, points)
 }
 
 // q with one row's entry at place j added, also where its digit is 0.

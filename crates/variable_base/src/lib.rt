@@ -37,7 +37,7 @@ fn refusal(point: &[u64], scalar: &[u8]) -> u8
     if (point.len() != 4) | (scalar.len() != 32) {
         return 1;
     }
-    lent::plain_contents(scalar, point)
+    asks::plain_contents(scalar, point)
 }
 
 // Single base.
@@ -49,8 +49,8 @@ pub fn mul(point: &[u64], scalar: &[u8]) -> Sum
         return answer::refused_sum(n);
     }
     let mut window = [0u64; 32];
-    let made = window::make_successive(limbs::element_at(point, 0), &mut window);
-    let row = scalar::radix_row(scalar, 4);
+    let made = window::make_successive(flat::element_at(point, 0), &mut window);
+    let row = radix::radix_row(scalar, 4);
     let w = walk(row, &window);
     answer::sum(
         w.element,

@@ -38,7 +38,7 @@ fn refusal(a: &[u8], point: &[u64], b: &[u8]) -> u8
     if lent::any_big(a) {
         return 6;
     }
-    lent::plain_contents(b, point)
+    asks::plain_contents(b, point)
 }
 
 // Double base.
@@ -53,7 +53,7 @@ pub fn mul(a: &[u8], point: &[u64], b: &[u8]) -> Sum
     let b_naf = scalar::naf_row(b, 8);
     let i = start(&a_naf, &b_naf);
     let mut window = [0u64; 32];
-    let made = window::make_odd8(limbs::element_at(point, 0), &mut window);
+    let made = window::make_odd8(flat::element_at(point, 0), &mut window);
     let w = crate::basepoint::walk(&a_naf, &window, &b_naf, i + 1);
     answer::sum(
         w.element,

@@ -13,7 +13,7 @@ use Rattle.rules.specs.Numbers.{given, window8Answer, window64Answer}
 use Rattle.rules.specs.Windows.{successive, odd, limbsFlat, pointRefusal}
 use Rattle.rules.specs.Helpers.{elementsFlat, madeSuccessive, madeOdd, madeOddIn}
 use Rattle.residue.proofs.Members.{Member}
-use Rattle.residue.proofs.Answers.{point-member}
+use Rattle.group.proofs.Answers.{point-member}
 use Rattle.laws.proofs.Puts.{put-same}
 use Rattle.window.proofs.Flat.{read-ranged, elements-length, successive-limbs, odd-limbs}
 

@@ -5,6 +5,7 @@ ghost use Rattle.rules.specs.Group.{elements};
 ghost use Rattle.rules.specs.Windows.{stepped, lookupTable, nafLookupTable5, nafLookupTable8};
 ghost use Rattle.rules.specs.Lists.{put, joined};
 ghost use Rattle.rules.specs.Helpers.{elementsFlat, made, madeSuccessive, madeOdd};
+ghost use Rattle.laws.specs.Parts.{Each};
 use rules::Counts;
 use rules::Element;
 use rules::Window8;
@@ -15,14 +16,14 @@ fn stepped8(p: Element, s: Element, additions: &mut u64) -> [[u64; 4]; 8]
     requires { ⌜ now additions ≡ 0 ⌝ }
     ensures { λ r. ⌜ (joined r ≡ elementsFlat (stepped elements s p) 8) × (is additions ≡ 7) ⌝ }
 {
-    let first = limbs::array(p);
+    let first = flat::array(p);
     let mut t = [first; 8];
     let mut e = p;
     let mut i: usize = 1;
     while i < 8 {
         e = residue::plus(e, s);
         *additions += 1;
-        let l = limbs::array(e);
+        let l = flat::array(e);
         t[i] = l;
         i += 1;
     }
@@ -34,43 +35,31 @@ fn stepped64(p: Element, s: Element, additions: &mut u64) -> [[u64; 4]; 64]
     requires { ⌜ now additions ≡ 0 ⌝ }
     ensures { λ r. ⌜ (joined r ≡ elementsFlat (stepped elements s p) 64) × (is additions ≡ 63) ⌝ }
 {
-    let first = limbs::array(p);
+    let first = flat::array(p);
     let mut t = [first; 64];
     let mut e = p;
     let mut i: usize = 1;
     while i < 64 {
         e = residue::plus(e, s);
         *additions += 1;
-        let l = limbs::array(e);
+        let l = flat::array(e);
         t[i] = l;
         i += 1;
     }
     t
 }
 
-// A window of 8 elements into its part, which is untouched where it has another length.
-fn copy_window8(part: &mut [u64], window: [[u64; 4]; 8])
-    ensures { λ _. ⌜ is part ≡ put (joined window) (was part) ⌝ }
+// A window into its part, limb by limb; a part of another length is untouched.
+fn copy_window(part: &mut [u64], window: &[[u64; 4]])
+    requires { ⌜ Each 4 (now window) ⌝ }
+    ensures { λ _. ⌜ is part ≡ put (joined (was window)) (was part) ⌝ }
 {
-    if part.len() != 32 {
+    let n = part.len();
+    if n != 4 * window.len() {
         return;
     }
     let mut i: usize = 0;
-    while i < 32 {
-        part[i] = window[i / 4][i % 4];
-        i += 1;
-    }
-}
-
-// A window of 64 elements likewise.
-fn copy_window64(part: &mut [u64], window: [[u64; 4]; 64])
-    ensures { λ _. ⌜ is part ≡ put (joined window) (was part) ⌝ }
-{
-    if part.len() != 256 {
-        return;
-    }
-    let mut i: usize = 0;
-    while i < 256 {
+    while i < n {
         part[i] = window[i / 4][i % 4];
         i += 1;
     }
@@ -82,7 +71,7 @@ pub fn make_successive(p: Element, part: &mut [u64]) -> Counts
 {
     let mut additions: u64 = 0;
     let t = stepped8(p, p, &mut additions);
-    copy_window8(&mut *part, t);
+    copy_window(&mut *part, &t);
     Counts {
         additions,
         doublings: 0,
@@ -96,7 +85,7 @@ pub fn make_odd8(p: Element, part: &mut [u64]) -> Counts
     let mut additions: u64 = 0;
     let s = residue::twice(p);
     let t = stepped8(p, s, &mut additions);
-    copy_window8(&mut *part, t);
+    copy_window(&mut *part, &t);
     Counts {
         additions,
         doublings: 1,
@@ -110,7 +99,7 @@ pub fn make_odd64(p: Element, part: &mut [u64]) -> Counts
     let mut additions: u64 = 0;
     let s = residue::twice(p);
     let t = stepped64(p, s, &mut additions);
-    copy_window64(&mut *part, t);
+    copy_window(&mut *part, &t);
     Counts {
         additions,
         doublings: 1,
@@ -122,9 +111,9 @@ pub fn lookup_table(point: &[u64]) -> Window8
     ensures { λ r. ⌜ r ≡ lookupTable (was point) ⌝ }
 {
     let mut limbs = [0u64; 32];
-    let number = residue::point_refusal(point);
+    let number = group::point_refusal(point);
     if number == 0 {
-        make_successive(limbs::element_at(point, 0), &mut limbs);
+        make_successive(flat::element_at(point, 0), &mut limbs);
     }
     Window8 { number, limbs }
 }
@@ -134,9 +123,9 @@ pub fn naf_lookup_table5(point: &[u64]) -> Window8
     ensures { λ r. ⌜ r ≡ nafLookupTable5 (was point) ⌝ }
 {
     let mut limbs = [0u64; 32];
-    let number = residue::point_refusal(point);
+    let number = group::point_refusal(point);
     if number == 0 {
-        make_odd8(limbs::element_at(point, 0), &mut limbs);
+        make_odd8(flat::element_at(point, 0), &mut limbs);
     }
     Window8 { number, limbs }
 }
@@ -146,9 +135,9 @@ pub fn naf_lookup_table8(point: &[u64]) -> Window64
     ensures { λ r. ⌜ r ≡ nafLookupTable8 (was point) ⌝ }
 {
     let mut limbs = [0u64; 256];
-    let number = residue::point_refusal(point);
+    let number = group::point_refusal(point);
     if number == 0 {
-        make_odd64(limbs::element_at(point, 0), &mut limbs);
+        make_odd64(flat::element_at(point, 0), &mut limbs);
     }
     Window64 { number, limbs }
 }

@@ -1,2 +1,3 @@
-pub mod Bits
-pub mod Turns
+-- Facts that several proofs cite, in this crate and above it.
+pub mod LimbBits
+mod Turns

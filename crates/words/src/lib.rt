@@ -54,7 +54,7 @@ pub fn byte_of(x: u64, k: usize) -> u8
 pub fn bytes(list: &[u64]) -> [u8; 32]
     ensures { λ r. ⌜ r ≡ places 256 32 (pointAt (was list) 0) ⌝ }
 {
-    let x = limbs::array(limbs::element_at(list, 0));
+    let x = flat::array(flat::element_at(list, 0));
     let mut bytes = [0u8; 32];
     for k in 0..32 {
         bytes[k] = byte_of(x[k / 8], k % 8);

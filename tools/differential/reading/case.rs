@@ -25,13 +25,13 @@ pub struct Case {
 
 /// What each call takes: b bytes, d digits, l limbs, n a number, x a digit, p an optional point.
 const FORMS: [(&str, &str); 26] = [
-    ("residue::add", "ll"),
-    ("residue::subtract", "ll"),
-    ("residue::negate", "l"),
-    ("residue::double", "l"),
+    ("group::add", "ll"),
+    ("group::subtract", "ll"),
+    ("group::negate", "l"),
+    ("group::double", "l"),
     ("scalar::non_adjacent_form", "bn"),
-    ("scalar::as_radix_16", "b"),
-    ("scalar::as_radix_2w", "bn"),
+    ("radix::as_radix_16", "b"),
+    ("radix::as_radix_2w", "bn"),
     ("reader::read_naf", "dn"),
     ("reader::read_radix", "dn"),
     ("window::lookup_table", "l"),

@@ -9,6 +9,10 @@ use borrow.Author.Needs.{needs}
 use Rattle.batch.proofs.set_point.Statement.{statement}
 use Rattle.batch.proofs.set_point.Tie as tie
 
+-- the way back to the start
+abbrev start : tie.After-refused-counted → tie.Start
+start c = c .before .before .before .before .before
+
 -- where the point is below L, the slot lies in memory
 inside : (c : tie.Else1) → let a = c .before .before .before .before .args in Inside (length (a .digits .now)) (length (a .windows .now)) (a .slot)
 inside c = edge-inside _ _ _ _ (c .before .before .before .before .pre)
@@ -21,7 +25,7 @@ refused-counted-requires c κs = search needs
 
 returns : tie.Need-returns
 unfolding setSlot
-returns c = refused-is (λ z. omega arith) _ _ _ _ _ _ (over-is _ _ _ _ (c .before .before .before .before .before .pre) _ (sym (c .before .before .over .ensures) ∙ c .before .if1 .taken)) (c .refused-counted .ensures)
+returns c = refused-is (λ z. omega arith) _ _ _ _ _ _ (over-is _ _ _ _ (start c .pre) _ (sym (c .before .before .over .ensures) ∙ c .before .if1 .taken)) (c .refused-counted .ensures)
 
 mul-a : tie.Need-mul-a
 mul-a c = omega (arith, inside c .few)

@@ -1,15 +1,24 @@
 -- A search: none of the elements passed is at or above L.
-use mathlib.Core.Bool.{false}
-use mathlib.Core.Path.{_≡_, sym, _∙_}
-use Prim.Native.Nat.{_≤_, _-_}
+use mathlib.Core.Bool.{Bool, false}
+use mathlib.Core.List.{List}
+use mathlib.Core.Path.{_≡_, sym, ap, _∙_}
+use Prim.Native.Nat.{ℕ, _≤_, _-_}
 use native.Mathlib.Omega.{arith}
+use lib.Dec.{leb}
 use borrow.Author.Needs.{needs}
+use Rattle.rules.specs.declared.Element.{Element}
+use Rattle.rules.specs.Values.{valueOf, elementAt, pointAt}
+use Rattle.rules.specs.Group.{L}
 use Rattle.rules.specs.Numbers.{anyBelow}
 use Rattle.rules.specs.Windows.{over, anyOver}
 use Rattle.laws.specs.Conditions.{any-none, any-more, any-at, any-end}
-use Rattle.lent.proofs.Points.{over-at}
 use Rattle.lent.proofs.any_over.Statement.{statement}
 use Rattle.lent.proofs.any_over.Tie as tie
+
+-- an element of flat limbs
+over-at : (l : List ℕ) (i : ℕ) {x : Element} {r : Bool} → x ≡ elementAt l i → r ≡ leb L (valueOf x) → over l i ≡ r
+unfolding over pointAt
+over-at l i e q = sym (q ∙ ap (λ (y : Element). leb L (valueOf y)) e)
 
 abbrev Inv-loop : tie.InvT-loop
 Inv-loop limbs n i₀ i = (i ≤ n) × (anyBelow (over limbs) i ≡ false)

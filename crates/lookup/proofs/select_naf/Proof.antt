@@ -12,6 +12,10 @@ use Rattle.lookup.proofs.Lookups.{bySign, number-odd, found-odd}
 use Rattle.lookup.proofs.select_naf.Statement.{statement}
 use Rattle.lookup.proofs.select_naf.Tie as tie
 
+-- the way back to the refusal
+abbrev asked : tie.After-value → tie.After-lookup-refusal
+asked c = c .before .before .before .before .before
+
 magnitude-requires : tie.Need-magnitude-requires
 magnitude-requires c κs = search needs
 
@@ -50,7 +54,7 @@ value-requires c κs = search needs
 returns-2 : tie.Need-returns-2
 unfolding selectNaf
 returns-2 c =
-    let s = c .before .before .before .before .before in
+    let s = asked c in
     let k = s .before .before in
     let a = k .before in
     let e = back8 _ (a .fits .d) in

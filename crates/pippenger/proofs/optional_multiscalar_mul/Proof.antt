@@ -20,8 +20,17 @@ widened c = c .before .before
 abbrev rowed : tie.After-walk → tie.After-rows
 rowed c = c .before .before .before .before
 
+abbrev clearing : tie.After-clear-limbs-arg → tie.After-walk
+clearing c = c .before .before .before .before .before .before
+
+abbrev digits-cleared : tie.After-sum → tie.After-clear-digits
+digits-cleared c = c .before .before .before .before .before .before .before .before
+
+abbrev counted : tie.After-sum → tie.After-buckets-count
+counted c = c .before .before .before .before .before
+
 abbrev walked : tie.After-sum → tie.After-walk
-walked c = c .before .before .before .before .before .before .before .before .before .before .before .before
+walked c = clearing (counted c .before)
 
 -- past the last test
 passed : (c : tie.After-width) → let a = start c .args in Ready (a .scalars .now) (a .points .now) (c .before .before .pairs .result) (c .width .result) (length (a .digits .now)) (length (a .buckets .now))
@@ -60,10 +69,10 @@ clear-digits-requires : tie.Need-clear-digits-requires
 clear-digits-requires c κs = search needs
 
 buckets-count-requires : tie.Need-buckets-count-requires
-buckets-count-requires c κs = let p = passed (widened (rowed (c .before .before .before .before .before .before))) in (p .low, p .high)
+buckets-count-requires c κs = let p = passed (widened (rowed (clearing c))) in (p .low, p .high)
 
 mul-clear-limbs : tie.Need-mul-clear-limbs
-mul-clear-limbs c = let p = passed (widened (rowed (c .before .before .before .before .before .before .before))) in omega (arith, c .buckets-count .ensures, wide _ (p .low) (p .high) .buckets)
+mul-clear-limbs c = let p = passed (widened (rowed (clearing (c .before)))) in omega (arith, c .buckets-count .ensures, wide _ (p .low) (p .high) .buckets)
 
 clear-limbs-requires : tie.Need-clear-limbs-requires
 clear-limbs-requires c κs = search needs
@@ -83,7 +92,7 @@ returns-2 c = let k = walked c in
     let v = widened r in
     let t = v .before .before .before in
     done-after _ _ _ _ _ (t .before .refusal .ensures) (t .if1 .left) (v .before .before .pairs .ensures) (v .before .picked-by .ensures) (v .width .ensures) (passed v)
-    (r .rows .ensures) (k .walk .ensures) (c .before .before .before .before .before .before .before .before .clear-digits .ensures) (c .before .before .before .before .before .buckets-count .ensures) (c .before .before .before .before .clear-limbs .ensures) (c .sum .ensures)
+    (r .rows .ensures) (k .walk .ensures) (digits-cleared c .clear-digits .ensures) (counted c .buckets-count .ensures) (c .before .before .before .before .clear-limbs .ensures) (c .sum .ensures)
 
 pub optional-multiscalar-mul-spec : {M : Type 1} → statement M
 optional-multiscalar-mul-spec =

@@ -17,6 +17,9 @@ dynamic c = c .before .before .before .before .before .before
 abbrev fixed : tie.After-windows → tie.After-rows2
 fixed c = c .before .before .before
 
+abbrev walked : tie.After-struct-known4 → tie.After-walk
+walked c = c .before .before .before .before .before
+
 abbrev windowed : tie.After-walk → tie.After-windows
 windowed c = c .before .before .before .before .before .before .before
 
@@ -68,13 +71,13 @@ add-t33 c = let k = c .before .before .before in
     record { fits = few-additions _ _ _ _ _ _ (start r .pre) (range r) (r .rows .ensures) (r .rows .kept .1 .1 .1 .0) (fixed w .rows2 .ensures) (w .windows .ensures) (k .walk .ensures) }
 
 add-t34 : tie.Need-add-t34
-add-t34 c = let k = c .before .before .before .before .before in
+add-t34 c = let k = walked c in
     let w = windowed k in
     let r = dynamic w in
     record { fits = few-doublings _ _ _ _ _ _ (start r .pre) (range r) (r .rows .ensures) (r .rows .kept .1 .1 .1 .0) (fixed w .rows2 .ensures) (w .windows .ensures) (k .walk .ensures) }
 
 same-length : tie.Need-same-length
-same-length c = let w = windowed (c .before .before .before .before .before) in
+same-length c = let w = windowed (walked c) in
     let r = dynamic w in
     digits-long _ _ _ _ _ _ (start r .pre) (range r) (r .rows .ensures) (r .rows .kept .1 .1 .1 .0) (fixed w .rows2 .ensures) (w .windows .ensures)
 
@@ -82,7 +85,7 @@ same-length-2 : tie.Need-same-length-2
 same-length-2 c = search needs
 
 returns : tie.Need-returns
-returns c = let k = c .before .before .before .before .before in
+returns c = let k = walked c in
     let w = windowed k in
     let r = dynamic w in
     mixed-walk _ _ _ _ _ _ (start r .pre) (range r) (r .rows .ensures) (r .rows .kept .1 .1 .1 .0) (fixed w .rows2 .ensures) (w .windows .ensures) (k .walk .ensures)

@@ -4,12 +4,16 @@ use Rattle.rules.specs.declared.RadixRow.{RadixRow}
 use Rattle.rules.specs.Numbers.{radixAnswer}
 use Rattle.rules.specs.Rows.{radixOf, radixRow, readRadix, readRadixRefusal}
 use Rattle.laws.specs.RowsRule.{radix-sum}
-use Rattle.scalar.proofs.Fronts.{width-in}
+use Rattle.bits.proofs.Refusals.{width-in}
 use Rattle.reader.proofs.Fronts.{shape-passed, read-refused}
 use Rattle.reader.proofs.Reading.{compared-is}
 use borrow.Author.Needs.{needs}
 use Rattle.reader.proofs.read_radix.Statement.{statement}
 use Rattle.reader.proofs.read_radix.Tie as tie
+
+-- the way back to the bytes of the row
+abbrev rowed : tie.After-compared → tie.After-row-bytes
+rowed c = c .before .before .before .before .before
 
 shape-refusal-requires : tie.Need-shape-refusal-requires
 shape-refusal-requires c κs = search needs
@@ -39,7 +43,7 @@ compared-requires c κs = search needs
 returns-2 : tie.Need-returns-2
 unfolding readRadix readRadixRefusal radixOf radixAnswer
 returns-2 c =
-    let b = c .before .before .before .before .before in
+    let b = rowed c in
     let w = b .before .before .before .args .w in
     let right = sym (b .before .if1 .left) ∙ b .before .before .shape-refusal .ensures in
     let p = shape-passed 64 4 _ w right in

@@ -3,7 +3,7 @@ use borrow.Author.Tests.{eq-eqb, ne-eqb}
 use Rattle.rules.specs.Numbers.{first}
 use Rattle.rules.specs.Rows.{notLong}
 use Rattle.reader.specs.Readers.{shapeRefusal}
-use Rattle.scalar.proofs.Fronts.{too-low, too-high, within}
+use Rattle.bits.proofs.Refusals.{too-low, too-high, within}
 use Rattle.reader.proofs.shape_refusal.Statement.{statement}
 use Rattle.reader.proofs.shape_refusal.Tie as tie
 

@@ -48,7 +48,7 @@ fn counts(
         return precomputed_straus::new(l, windows);
     }
     if code == 23 {
-        let flags = parts::bytes(bytes, 32832, n[2]);
+        let flags = parts::bytes(bytes, parts::BYTES, n[2]);
         return batch::prepare(a, l, flags, digits, windows);
     }
     edited(code, n, a, digits, windows)

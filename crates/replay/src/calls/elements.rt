@@ -7,15 +7,15 @@ use rules::Window8;
 // Codes 1 to 4.
 fn of_group(code: u64, a: &[u64], b: &[u64]) -> Value {
     if code == 1 {
-        return residue::add(a, b);
+        return group::add(a, b);
     }
     if code == 2 {
-        return residue::subtract(a, b);
+        return group::subtract(a, b);
     }
     if code == 3 {
-        return residue::negate(a);
+        return group::negate(a);
     }
-    residue::double(a)
+    group::double(a)
 }
 
 // The line of codes 1 to 4.

@@ -42,15 +42,15 @@ fn sum(
     windows: &mut [u64],
 ) -> Sum {
     let a = parts::bytes(bytes, 0, n[1]);
-    let b = parts::bytes(bytes, 32832, n[2]);
+    let b = parts::bytes(bytes, parts::BYTES, n[2]);
     let l = parts::limbs(limbs, 0, n[4]);
     if code == 21 {
         return precomputed_straus::optional_mixed_multiscalar_mul(
             l,
             a,
             b,
-            parts::limbs(limbs, 33024, n[5]),
-            parts::bytes(bytes, 65664, n[3]),
+            parts::limbs(limbs, parts::LIMBS, n[5]),
+            parts::bytes(bytes, 2 * parts::BYTES, n[3]),
             digits,
             windows,
         );

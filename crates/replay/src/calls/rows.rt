@@ -6,9 +6,9 @@ use rules::ScalarBytes;
 // Codes 6 and 7.
 fn radix(code: u64, s: &[u8], w: usize) -> RadixRow {
     if code == 6 {
-        return scalar::as_radix_16(s);
+        return radix::as_radix_16(s);
     }
-    scalar::as_radix_2w(s, w)
+    radix::as_radix_2w(s, w)
 }
 
 // Codes 8 and 9.

@@ -24,8 +24,11 @@ paired c = rowed c .before .before
 abbrev windowed : tie.After-walk → tie.After-windows
 windowed c = c .before .before .before .before .before
 
+abbrev counting : tie.After-struct-known2 → tie.After-walk
+counting c = c .before .before .before .before .before .before .before .before .before
+
 abbrev walked : tie.After-sum → tie.After-walk
-walked c = c .before .before .before .before .before .before .before .before .before .before .before .before
+walked c = counting (c .before .before .before)
 
 abbrev digits-cleared : tie.After-sum → tie.After-clear-digits
 digits-cleared c = c .before .before .before .before .before .before .before .before .before .before
@@ -80,10 +83,10 @@ clear-limbs-requires : tie.Need-clear-limbs-requires
 clear-limbs-requires c κs = search needs
 
 add-sum : tie.Need-add-sum
-add-sum c = let w = c .before .before .before .before .before .before .before .before .before in omega (arith, counts w, ready (paired (windowed w)) .few)
+add-sum c = let w = counting c in omega (arith, counts w, ready (paired (windowed w)) .few)
 
 add-sum-2 : tie.Need-add-sum-2
-add-sum-2 c = omega (arith, counts (c .before .before .before .before .before .before .before .before .before .before .before))
+add-sum-2 c = omega (arith, counts (counting (c .before .before)))
 
 sum-requires : tie.Need-sum-requires
 sum-requires c κs = search needs

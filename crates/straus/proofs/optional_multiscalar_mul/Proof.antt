@@ -17,6 +17,9 @@ use Rattle.straus.proofs.optional_multiscalar_mul.Tie as tie
 abbrev start : tie.After-pairs → tie.Start
 start c = c .before .before .before .before .before .before .before
 
+abbrev points-known : tie.After-pairs → tie.After-shared-slice-known2
+points-known c = c .before .before .before .before .before
+
 abbrev rowed : tie.After-windows → tie.After-rows
 rowed c = c .before .before .before
 
@@ -26,8 +29,11 @@ paired c = rowed c .before .before
 abbrev windowed : tie.After-walk → tie.After-windows
 windowed c = c .before .before .before .before .before .before .before
 
+abbrev counting : tie.After-struct-known2 → tie.After-walk
+counting c = c .before .before .before .before .before .before .before .before .before
+
 abbrev walked : tie.After-sum → tie.After-walk
-walked c = c .before .before .before .before .before .before .before .before .before .before .before .before
+walked c = counting (c .before .before .before)
 
 abbrev digits-cleared : tie.After-sum → tie.After-clear-digits
 digits-cleared c = c .before .before .before .before .before .before .before .before .before .before
@@ -43,7 +49,7 @@ ready : (c : tie.After-pairs) → let a = start c .args in Ready 256 (a .scalars
 ready c = naf-ok _ _ _ (start c .args .digits .now) (start c .args .limbs .now) (c .pairs .ensures) (passed c)
 
 range : (c : tie.After-pairs) (i : ℕ) → getD (start c .args .points .now) i 0 < limb
-range c i = c .before .before .before .before .before .shared-slice-known2 .given i .fits
+range c i = points-known c .shared-slice-known2 .given i .fits
 
 -- rows and windows lie in the room
 digits-room : (c : tie.After-windows) → 256 * paired c .pairs .result ≤ length (rowed c .rows .last .1 .1 .1 .0)
@@ -111,10 +117,10 @@ clear-limbs-requires : tie.Need-clear-limbs-requires
 clear-limbs-requires c κs = search needs
 
 add-sum : tie.Need-add-sum
-add-sum c = record { fits = counts (c .before .before .before .before .before .before .before .before .before) .0 }
+add-sum c = record { fits = counts (counting c) .0 }
 
 add-sum-2 : tie.Need-add-sum-2
-add-sum-2 c = record { fits = counts (c .before .before .before .before .before .before .before .before .before .before .before) .1 }
+add-sum-2 c = record { fits = counts (counting (c .before .before)) .1 }
 
 sum-requires : tie.Need-sum-requires
 sum-requires c κs = search needs

@@ -8,6 +8,10 @@ use borrow.Author.Needs.{needs}
 use Rattle.variable_base.proofs.mul.Statement.{statement}
 use Rattle.variable_base.proofs.mul.Tie as tie
 
+-- the way back to the walk
+abbrev walked : tie.After-sum → tie.After-walk
+walked c = c .before .before .before .before .before
+
 refusal-requires : tie.Need-refusal-requires
 refusal-requires c κs = search needs
 
@@ -51,7 +55,7 @@ sum-requires c κs = search needs
 
 returns-2 : tie.Need-returns-2
 returns-2 c =
-    let w = c .before .before .before .before .before in
+    let w = walked c in
     let m = w .before .before .before .before in
     let e = m .before .before in
     answered _ _ (sym (e .before .before .refusal .ensures) ∙ e .before .if1 .left) _ (e .element-at .ensures) refl (m .make-successive .ensures) (w .before .before .radix-row .ensures) (w .walk .ensures) (c .sum .ensures)

@@ -19,6 +19,12 @@ start c = rowed c .before .before .before .before .before .before
 abbrev found : tie.After-walk → tie.After-start
 found c = c .before .before .before .before .before .before .before .before
 
+abbrev placed : tie.After-b-naf2 → tie.After-start
+placed c = c .before .before .before .before .before .before .before
+
+abbrev walked : tie.After-sum → tie.After-walk
+walked c = c .before .before .before .before .before
+
 abbrev made : tie.After-walk → tie.After-make-odd8
 made c = c .before .before .before .before .before
 
@@ -78,7 +84,7 @@ slice-aggregate-walk-3 c = search needs
 
 add-walk : tie.Need-add-walk
 add-walk c =
-    let s = c .before .before .before .before .before .before .before in
+    let s = placed c in
     let n = s .before .before .before in
     omega (arith, s .start .ensures, start-inside (n .before .naf-row .result) (n .naf-row2 .result))
 
@@ -97,7 +103,7 @@ sum-requires c κs = search needs
 returns-2 : tie.Need-returns-2
 unfolding double
 returns-2 c =
-    let w = c .before .before .before .before .before in
+    let w = walked c in
     done-sum (passed w) _ (c .sum .ensures) (done w .element) (done w .additions) (done w .doublings)
 
 pub mul-spec : {M : Type 1} → statement M

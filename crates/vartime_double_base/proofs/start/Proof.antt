@@ -20,6 +20,10 @@ Inv-loop a b i₀ i = (i ≤ 255) × (startPlace a b ≡ highest (either a b) (i
 abbrev μ-loop : tie.MeasureT-loop
 μ-loop a b i₀ i = i
 
+-- the way back to the loop
+abbrev at-loop : tie.Else3 Inv-loop μ-loop → tie.At-loop Inv-loop μ-loop
+at-loop c = c .before .before .before .before .before
+
 loop-holds : tie.Need-loop-holds Inv-loop μ-loop
 loop-holds c = (omega arith, start-is (c .args .a .now) (c .args .b .now))
 
@@ -37,7 +41,7 @@ loop-less c = omega arith
 
 loop-again : tie.Need-loop-again Inv-loop μ-loop
 loop-again c =
-    let s = c .before .before .before .before .before in
+    let s = at-loop c in
     let fa : SFits w8 (getD (s .before .args .a .now) (s .loop .i) (pos 0)) = search needs in
     let fb : SFits w8 (getD (s .before .args .b .now) (s .loop .i) (pos 0)) = search needs in
     (omega arith, lower _ _ _ (s .loop .inv .1) (c .if3 .left) (is-zero _ fa (c .before .before .before .if1 .left)) (is-zero _ fb (c .before .if2 .left)))

@@ -6,7 +6,7 @@ use native.Mathlib.Omega.{arith}
 use Rattle.rules.specs.declared.Element.{Element}
 use Rattle.rules.specs.Values.{number, places, limb, limbsOf, valueOf, elementAt, pointAt, Below}
 use Rattle.words.proofs.Turns.{read-below, Bytes, bytes-none, bytes-more, bytes-end}
-use Rattle.words.proofs.Bits.{byte-in}
+use Rattle.words.proofs.LimbBits.{byte-in}
 use Rattle.words.proofs.bytes.Statement.{statement}
 use Rattle.words.proofs.bytes.Tie as tie
 

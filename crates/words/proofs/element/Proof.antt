@@ -4,6 +4,10 @@ use borrow.Author.Needs.{needs}
 use Rattle.words.proofs.element.Statement.{statement}
 use Rattle.words.proofs.element.Tie as tie
 
+-- the way back to the start
+abbrev start : tie.After-limb-of4 → tie.Start
+start c = c .before .before .before .before .before
+
 limb-of-requires : tie.Need-limb-of-requires
 limb-of-requires c κs = search needs
 
@@ -22,7 +26,7 @@ returns c =
     let x1 = c .before .before .limb-of2 .ensures in
     let x2 = c .before .limb-of3 .ensures in
     let x3 = c .limb-of4 .ensures in
-    element-is (c .before .before .before .before .before .args .bytes .now) _ (record { r0 = x0 .1; r1 = x1 .1; r2 = x2 .1; r3 = x3 .1 }) (x0 .0) (x1 .0) (x2 .0) (x3 .0)
+    element-is (start c .args .bytes .now) _ (record { r0 = x0 .1; r1 = x1 .1; r2 = x2 .1; r3 = x3 .1 }) (x0 .0) (x1 .0) (x2 .0) (x3 .0)
 
 pub element-spec : {M : Type 1} → statement M
 element-spec =

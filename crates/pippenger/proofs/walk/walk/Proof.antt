@@ -26,6 +26,9 @@ abbrev μ-loop : tie.MeasureT-loop
 abbrev start : tie.After-column Inv-loop μ-loop → tie.Start Inv-loop μ-loop
 start c = c .before .before .before .before .before .before
 
+abbrev started : tie.After-column-arg Inv-loop μ-loop → tie.Start Inv-loop μ-loop
+started c = c .before .before .before .before .before
+
 abbrev opened : tie.At-loop Inv-loop μ-loop → tie.After-column Inv-loop μ-loop
 opened c = c .before .before .before .before
 
@@ -79,7 +82,7 @@ sub-column c = let a = c .before .before .before .before in omega (arith, c .to-
 
 column-requires : tie.Need-column-requires Inv-loop μ-loop
 column-requires c κs =
-    let a = c .before .before .before .before .before in
+    let a = started c in
     column-asked (a .pre) (c .before .before .buckets-count .ensures) (omega (arith, c .before .to-radix-2w-size-hint .ensures, width a .some)) (a .args .buckets .now) refl
 
 sub-j : tie.Need-sub-j Inv-loop μ-loop

@@ -1,0 +1,3 @@
+-- Facts that several proofs cite, in this crate and above it.
+pub mod Refusals
+pub mod Waiting

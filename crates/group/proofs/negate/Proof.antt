@@ -1,0 +1,43 @@
+-- Refused by its number, else the inverse of a member.
+use Rattle.rules.specs.Calls.{groupNegate}
+use Rattle.answer.proofs.Answers.{refused-value}
+use Rattle.group.proofs.Answers.{inverse-answer}
+use borrow.Author.Needs.{needs}
+use Rattle.group.proofs.negate.Statement.{statement}
+use Rattle.group.proofs.negate.Tie as tie
+
+point-refusal-requires : tie.Need-point-refusal-requires
+point-refusal-requires c κs = search needs
+
+refused-value-requires : tie.Need-refused-value-requires
+refused-value-requires c κs = search needs
+
+returns : tie.Need-returns
+unfolding groupNegate
+returns c = refused-value (c .before .before .point-refusal .ensures) (c .before .if1 .taken) _ (c .refused-value .ensures)
+
+element-at-requires : tie.Need-element-at-requires
+element-at-requires c κs = search needs
+
+negative-requires : tie.Need-negative-requires
+negative-requires c κs = search needs
+
+value-requires : tie.Need-value-requires
+value-requires c κs = search needs
+
+returns-2 : tie.Need-returns-2
+returns-2 c =
+    let s = c .before .before .before in
+    inverse-answer _ (s .before .point-refusal .ensures) (s .if1 .left) (c .before .before .element-at .ensures) (c .before .negative .ensures) (c .value .ensures)
+
+pub negate-spec : {M : Type 1} → statement M
+negate-spec =
+    tie.close
+    (tie.spec
+    point-refusal-requires
+    refused-value-requires
+    returns
+    element-at-requires
+    negative-requires
+    value-requires
+    returns-2)
