@@ -3,6 +3,7 @@ pub mod Refusals
 pub mod Group
 pub mod Rows
 pub mod Sums
+pub mod Widths
 pub mod Sheet
 pub mod OneGroup
 pub mod OneRows

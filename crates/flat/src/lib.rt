@@ -3,7 +3,7 @@ ghost use mathlib.Core.Path.{_≡_};
 ghost use Prim.Native.Nat.{_+_, _*_, _<_};
 ghost use lib.ListN.{getD};
 ghost use Rattle.rules.specs.Lent.{was};
-ghost use Rattle.rules.specs.Values.{limb, limbsOf, elementAt};
+ghost use Rattle.rules.specs.Values.{limbsOf, elementAt};
 use rules::Element;
 
 // The limbs of an element as an array, lowest first.

@@ -47,14 +47,14 @@ module _ (ss ps fs : List ℕ) (ds : List ℤ) (bs : List ℕ) {n : ℕ} (en : n
   refused-after h e =
       same-after (refused-sum en h _ _ _ e) (sym (room-refused (pos 0) _ _ ds (λ q. h (en ∙ q)))) (sym (room-refused 0 _ _ bs (λ q. h (en ∙ q))))
 
-  pub done-after : {m c w k : ℕ} {ds₁ ds₂ : List ℤ} {bs₁ bs₂ : List ℕ} {q : Walk} {r : Sum} → n ≡ 0 → m ≡ pairs ss ps → c ≡ pickedBy ss ps → w ≡ bucketWidth c
+  pub done-after : {m w k : ℕ} {ds₁ ds₂ : List ℤ} {bs₁ bs₂ : List ℕ} {q : Walk} {r : Sum} → n ≡ 0 → m ≡ pairs ss ps → w ≡ bucketWidth (pickedBy ss)
       → Ready ss ps m w (length ds) (length bs) → ds₁ ≡ laidRows (Radix w) ss m ds → Walked elements 4 ds₁ (elementAt ps) m w bs bs₁ (q .element) (q .additions) (q .doublings) → ds₂ ≡ cleared (pos 0) (64 * m) ds₁
       → k ≡ 2 ^ (w - 1) → bs₂ ≡ cleared 0 (4 * k) bs₁ → r ≡ sumDone (q .element) (q .additions) (q .doublings)
       → record { result = r; digits = ds₂; limbs = bs₂ } ≡ pippenger ss ps fs ds bs
   unfolding pippenger
-  done-after z em ec ew h filled walked ed ek eb er =
+  done-after z em ew h filled walked ed ek eb er =
       let none : pippengerRefusal ss ps fs (length ds) (length bs) ≡ 0 = sym en ∙ z in
-      rw (← em, ← ec, ← ew)
+      rw (← em, ← ew)
       (same-after
       (done-sum none _ er (walked .element ∙ sum-is h ds refl filled) (walked .additions ∙ additions-are h ds refl filled _) (walked .doublings))
       (digits-after none h ds refl filled ed)

@@ -27,9 +27,9 @@ picked c e = rw e (go (ltb c 500) (ltb c 800))
     go false false = (omega arith, omega arith)
 
 -- the buckets' limbs, as the code counts them
-pub limbs-are : {w c n p : ℕ} → w ≡ bucketWidth c → c ≡ p → n ≡ 2 ^ (w - 1) → 4 * n ≡ bucketLimbs (bucketWidth p)
+pub limbs-are : {w v n : ℕ} → w ≡ v → n ≡ 2 ^ (w - 1) → 4 * n ≡ bucketLimbs v
 unfolding bucketLimbs
-limbs-are ew ec en = rw (en, ew, ec)
+limbs-are ew en = rw (en, ew)
 
 -- 6, 7 and 8, by the pairs as the code has them
 pub contents-is : {r m n : ℕ} (ss ps fs : List ℕ) → m ≡ n → r ≡ first (flaggedContents ss ps fs m) → r ≡ first (flaggedContents ss ps fs n)
@@ -47,9 +47,9 @@ pub record Ready (ss ps : List ℕ) (m w d b : ℕ) : Type 0 where
   pub small : (i : ℕ) → i < m → scalarAt ss i < scalarBound
   pub members : (i : ℕ) → i < m → pointAt ps i < L
 
-pub ready : {ss ps : List ℕ} (fs : List ℕ) {m c w d b : ℕ} → m ≡ pairs ss ps → c ≡ pickedBy ss ps → w ≡ bucketWidth c → pippengerRefusal ss ps fs d b ≡ 0 → Ready ss ps m w d b
+pub ready : {ss ps : List ℕ} (fs : List ℕ) {m w d b : ℕ} → m ≡ pairs ss ps → w ≡ bucketWidth (pickedBy ss) → pippengerRefusal ss ps fs d b ≡ 0 → Ready ss ps m w d b
 unfolding pippengerRefusal shorter badLists
-ready {ss} {ps} fs em ec ew e =
+ready {ss} {ps} fs em ew e =
     let p₁ = first-none _ _ _ (λ q. omega arith) (sym e) in
     let p₂ = first-none _ _ _ (λ q. omega arith) (p₁ .1) in
     let p₃ = first-none _ _ _ (λ q. omega arith) (p₂ .1) in
@@ -65,7 +65,7 @@ ready {ss} {ps} fs em ec ew e =
       scalars = omega (arith, em, pairs-scalars ss ps);
       points = omega (arith, em, pairs-points ss ps);
       digits = rw em (ltb-false _ _ (long .0));
-      room = rw (ew, ec) (ltb-false _ _ (long .1));
+      room = rw ew (ltb-false _ _ (long .1));
       small = λ i h. small ss i (p₄ .0) (omega (arith, h, em, pairs-scalars ss ps));
       members = λ i h. there-under ps fs _ i (p₆ .0) (or-split (anyFlag fs) (anyPoint ps fs) (p₅ .0) .1) (rw em at h) (omega (arith, h, em, pairs-points ss ps));
     }

@@ -1,7 +1,7 @@
 // Pippenger: each column's points put into buckets by their digits, the buckets summed by two running sums.
 ghost use mathlib.Core.Path.{_≡_};
 ghost use Rattle.rules.specs.Lent.{was, is};
-ghost use Rattle.rules.specs.Engines.{after, bucketWidth, pickedBy, pippengerRefusal, pippenger};
+ghost use Rattle.rules.specs.Engines.{after, bucketWidth, pippengerRefusal, pippenger};
 use crate::walk::buckets_count;
 use crate::walk::walk;
 use rules::Row;
@@ -10,24 +10,17 @@ use rules::Sum;
 mod column;
 mod walk;
 
-// The digits' width by the count that picks it.
-fn width(count: usize) -> usize
-    ensures { λ r. ⌜ r ≡ bucketWidth count ⌝ }
+// The digits' width by the number of scalars, before the points are looked at.
+fn width(scalars: usize) -> usize
+    ensures { λ r. ⌜ r ≡ bucketWidth scalars ⌝ }
 {
-    if count < 500 {
+    if scalars < 500 {
         6
-    } else if count < 800 {
+    } else if scalars < 800 {
         7
     } else {
         8
     }
-}
-
-// The count that picks the width.
-fn picked_by(scalars: &[u8], points: &[u64]) -> usize
-    ensures { λ r. ⌜ r ≡ pickedBy (was scalars) (was points) ⌝ }
-{
-    lent::pairs(scalars, points)
 }
 
 // The number that the call answers.
@@ -39,7 +32,7 @@ fn refusal(scalars: &[u8], points: &[u64], flags: &[u8], digits: usize, buckets:
         return n;
     }
     let m = lent::pairs(scalars, points);
-    let limbs = 4 * buckets_count(width(picked_by(scalars, points)));
+    let limbs = 4 * buckets_count(width(scalars.len() / 32));
     let k = asks::room(64 * m, digits, limbs, buckets);
     if k != 0 {
         return k;
@@ -62,7 +55,7 @@ pub fn optional_multiscalar_mul(
         return answer::refused_sum(n);
     }
     let m = lent::pairs(scalars, points);
-    let w = width(picked_by(scalars, points));
+    let w = width(scalars.len() / 32);
     laying::rows(scalars, m, Row::Radix(w), &mut *digits);
     let q = walk(digits, points, m, w, &mut *buckets);
     room::clear_digits(&mut *digits, 64 * m);

@@ -80,6 +80,11 @@ pub record Answers (r : Sum) (v : ℕ) : Type 0 where
   pub number-is : r .number ≡ 0
   pub value-is : r .value ≡ places limb 4 v
 
+-- an answer that counts a additions and d doublings
+pub record Takes (r : Sum) (a d : ℕ) : Type 0 where
+  pub additions-are : r .additions ≡ a
+  pub doublings-are : r .doublings ≡ d
+
 -- preparing a list of pairs, a slot for each scalar
 abbrev pub prepared : Pairs → Memory → AfterEdit
 prepared l m = prepare (l .scalars) (l .points) (l .flags) m

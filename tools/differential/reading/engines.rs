@@ -38,13 +38,9 @@ pub fn entries(row: &[i8], window: &[Limbs]) -> Limbs {
 
 static POWERS: std::sync::LazyLock<Vec<Limbs>> = std::sync::LazyLock::new(|| (0..256).map(number::power).collect());
 
-/// Which count picks Pippenger's width: 01 takes the pairs used, the Rust the scalars.
-pub fn width_count(_scalars: usize, pairs: usize) -> usize {
-    pairs
-}
-
-pub fn pippenger_width(count: usize) -> usize {
-    match count {
+/// Pippenger's width by the number of scalars, before points are looked at.
+pub fn pippenger_width(scalars: usize) -> usize {
+    match scalars {
         0..500 => 6,
         500..800 => 7,
         _ => 8,
@@ -167,7 +163,7 @@ pub fn pippenger(case: &Case) -> Answer {
     let (digits, buckets) = (case.digits(3), case.limbs(4));
     let (s, p) = (scalars(bytes), elements(limbs));
     let m = s.len().min(p.len());
-    let w = pippenger_width(width_count(s.len(), m));
+    let w = pippenger_width(s.len());
     let need = 4 << (w - 1);
     let number = lowest(&[
         (1, torn(bytes.len(), 32) || torn(limbs.len(), 4) || flags.len() != p.len()),

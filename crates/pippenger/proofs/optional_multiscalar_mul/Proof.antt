@@ -2,6 +2,7 @@
 use mathlib.Core.Path.{refl, sym, _∙_}
 use native.Mathlib.Omega.{arith}
 use lib.ListN.{length}
+use Rattle.rules.specs.Engines.{pickedBy}
 use Rattle.laws.specs.BucketWalk.{wide}
 use Rattle.pippenger.proofs.Refusing.{Ready, ready}
 use Rattle.pippenger.proofs.Summing.{walkable}
@@ -12,7 +13,7 @@ use Rattle.pippenger.proofs.optional_multiscalar_mul.Tie as tie
 
 -- the places: the start, the width picked, the rows laid, the walk made
 abbrev start : tie.After-width → tie.Start
-start c = c .before .before .before .before .before .before .before .before .before
+start c = c .before .before .before .before .before .before .before .before
 
 abbrev widened : tie.After-rows → tie.After-width
 widened c = c .before .before
@@ -33,10 +34,11 @@ abbrev walked : tie.After-sum → tie.After-walk
 walked c = clearing (counted c .before)
 
 -- past the last test
-passed : (c : tie.After-width) → let a = start c .args in Ready (a .scalars .now) (a .points .now) (c .before .before .pairs .result) (c .width .result) (length (a .digits .now)) (length (a .buckets .now))
+passed : (c : tie.After-width) → let a = start c .args in Ready (a .scalars .now) (a .points .now) (c .before .pairs .result) (c .width .result) (length (a .digits .now)) (length (a .buckets .now))
+unfolding pickedBy
 passed c =
-    let t = c .before .before .before in
-    ready _ (c .before .before .pairs .ensures) (c .before .picked-by .ensures) (c .width .ensures) (sym (t .before .refusal .ensures) ∙ t .if1 .left)
+    let t = c .before .before in
+    ready _ (c .before .pairs .ensures) (c .width .ensures) (sym (t .before .refusal .ensures) ∙ t .if1 .left)
 
 refusal-requires : tie.Need-refusal-requires
 refusal-requires c κs = search needs
@@ -49,9 +51,6 @@ returns c = refused-after _ _ _ _ _ (c .before .before .refusal .ensures) (c .be
 
 pairs-requires : tie.Need-pairs-requires
 pairs-requires c κs = search needs
-
-picked-by-requires : tie.Need-picked-by-requires
-picked-by-requires c κs = search needs
 
 width-requires : tie.Need-width-requires
 width-requires c κs = search needs
@@ -87,11 +86,12 @@ same-length-2 : tie.Need-same-length-2
 same-length-2 c = search needs
 
 returns-2 : tie.Need-returns-2
+unfolding pickedBy
 returns-2 c = let k = walked c in
     let r = rowed k in
     let v = widened r in
-    let t = v .before .before .before in
-    done-after _ _ _ _ _ (t .before .refusal .ensures) (t .if1 .left) (v .before .before .pairs .ensures) (v .before .picked-by .ensures) (v .width .ensures) (passed v)
+    let t = v .before .before in
+    done-after _ _ _ _ _ (t .before .refusal .ensures) (t .if1 .left) (v .before .pairs .ensures) (v .width .ensures) (passed v)
     (r .rows .ensures) (k .walk .ensures) (digits-cleared c .clear-digits .ensures) (counted c .buckets-count .ensures) (c .before .before .before .before .clear-limbs .ensures) (c .sum .ensures)
 
 pub optional-multiscalar-mul-spec : {M : Type 1} → statement M
@@ -102,7 +102,6 @@ optional-multiscalar-mul-spec =
     refused-sum-requires
     returns
     pairs-requires
-    picked-by-requires
     width-requires
     rows-requires
     walk-requires

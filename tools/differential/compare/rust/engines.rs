@@ -2,12 +2,12 @@
 
 use reading::answer::Answer;
 use reading::case::Case;
-use reading::engines::{entries, naf_weight, pippenger_counts, pippenger_width, products, start_place, width_count};
+use reading::engines::{entries, naf_weight, pippenger_counts, pippenger_width, products, start_place};
 use reading::lists::{element_too_large, elements, point_refused, scalars, torn};
 use reading::number::{self, Limbs, ONE};
 use reading::rows::{naf, radix, weight};
 
-use super::{ASSERT, Check, Found, LARGE, MANY, NONE, PIPPENGER, ROOM, WINDOWS};
+use super::{ASSERT, Check, Found, LARGE, MANY, NONE, ROOM, WINDOWS};
 use super::{any_large, array, arrays, flat, large, named, same};
 use crate::side::{End, Side};
 
@@ -125,12 +125,8 @@ pub fn pippenger(side: &Side, case: &Case, said: &Answer) -> Check {
         return same(side, got, End::Nothing, vec![NONE]);
     };
     let w = pippenger_width(s.len());
-    let names = named(&[
-        (said.number == 2, MANY),
-        (said.number == 5, ROOM),
-        (said.number == 6 || any_large(bytes), LARGE),
-        (w != pippenger_width(width_count(s.len(), m)), PIPPENGER),
-    ]);
+    let names =
+        named(&[(said.number == 2, MANY), (said.number == 5, ROOM), (said.number == 6 || any_large(bytes), LARGE)]);
     let (additions, doublings) = pippenger_counts(&s[..m], w);
     same(side, got, End::Done(products(&s[..m], &p), additions, doublings), names)
 }

@@ -39,7 +39,6 @@ const LARGE: &str = "6: asserted in debug builds or not at all";
 const WIDTH: &str = "3: widths asserted in debug builds only";
 const DIGIT: &str = "10: lookup digits asserted in debug builds only";
 const WINDOWS: &str = "counts: the Rust builds a window for points past the last scalar";
-const PIPPENGER: &str = "counts: the Rust picks Pippenger's width by the scalar count";
 const NONE: &str = "8: the Rust answers None";
 const ASSERT: &str = "9: the Rust panics";
 

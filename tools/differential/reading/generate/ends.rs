@@ -32,6 +32,7 @@ pub fn ends(r: &mut Random) -> Vec<Case> {
             cases.push(case(r, code, &[]));
         }
     }
+    widths(&mut cases);
     cases
 }
 
@@ -120,6 +121,19 @@ fn lookups(r: &mut Random, cases: &mut Vec<Case>) {
 
 /// The most static points.
 const S: usize = MOST_STATIC;
+
+/// Pippenger's width goes by the scalars: counts that differ around 500 and 800, in both directions.
+fn widths(cases: &mut Vec<Case>) {
+    let r = &mut Random::new(4);
+    for n in [500, 800] {
+        for (ns, np) in [(n - 1, n), (n, n - 1), (3, n - 1), (3, n), (n - 1, 0), (n, 0)] {
+            let mut list = Pairs::new(r, ns, np);
+            list.scalars.fill(even_scalar(r));
+            list.points.fill(even_element(r));
+            cases.push(engine(r, 22, &list, &[]));
+        }
+    }
+}
 
 /// Long lists: where Pippenger's width changes, the limits, and one more.
 fn limits(r: &mut Random, cases: &mut Vec<Case>) {

@@ -3,7 +3,7 @@
 use super::fixed;
 use super::values::*;
 use crate::case::{Argument, Case};
-use crate::engines::{pippenger_width, width_count};
+use crate::engines::pippenger_width;
 use crate::lists::MOST;
 use crate::number::Limbs;
 use crate::random::Random;
@@ -146,7 +146,7 @@ pub fn engine(r: &mut Random, code: u8, pairs: &Pairs, bad: &[u8]) -> Case {
     let (digits, limbs) = match code {
         18 => (64 * m, 32 * m),
         19 => (256 * m, 32 * m),
-        _ => (64 * m, 4 << (pippenger_width(width_count(ns, m)) - 1)),
+        _ => (64 * m, 4 << (pippenger_width(ns) - 1)),
     };
     let (s, p, f) = flatten(r, pairs, bad, code != 18);
     let (d, l) = room(r, digits, limbs, bad);
