@@ -1,4 +1,6 @@
 // Answers: what a done call carries, and the zeros that a refused one does.
+#![tactic(auto)]
+
 ghost use Rattle.std.specs.Prelude.{◌≡◌};
 ghost use Rattle.rules.specs.Numbers.{valued, counted, summed};
 ghost use Rattle.rules.specs.Helpers.{value_done, counted_done, sum_done};

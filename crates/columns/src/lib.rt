@@ -12,7 +12,7 @@ ghost use Rattle.columns.specs.Running.{run};
 use rules::{Element, Walk};
 
 // A sum on its way down the columns, and the additions made so far.
-#[derive(Drop)]
+#[derive(Clone, Copy)]
 pub(crate) struct Running {
     element: Element,
     additions: u64,

@@ -1,4 +1,6 @@
 // A signed digit: its absolute value, and the window entry that it names.
+#![tactic(auto)]
+
 ghost use Rattle.std.specs.Prelude.{◌≡◌, nat_abs};
 ghost use Rattle.rules.specs.Loops.{odd_entry};
 

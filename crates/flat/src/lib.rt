@@ -1,4 +1,6 @@
 // Elements of flat limbs: one that is read, and its limbs as an array.
+#![tactic(auto)]
+
 ghost use Rattle.std.specs.Prelude.{◌≡◌, ◌+◌, ◌*◌, ◌<◌, get_or};
 ghost use Rattle.rules.specs.Lent.{was};
 ghost use Rattle.rules.specs.Values.{limbs_of, element_at};

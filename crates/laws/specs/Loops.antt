@@ -71,10 +71,10 @@ module _ {A C : Type 0} (In : A → Type 0) (φ : A → C) (f : ℕ → A → A)
   pub down-carry : {q : A} (n : ℕ) → ((j : ℕ) → j < n → (r : A) → In r → In (f j r) × (φ (f j r) ≡ g j (φ r)))
       → In q → In (down f n q) × (φ (down f n q) ≡ down g n (φ q))
   unfolding down
-  down-carry zero h m = (m, refl)
+  down-carry {q} zero h m = (m, refl)
   down-carry {q} (suc n) h m =
       let s = h n (lt-suc_self n) q m in
-      let r = down-carry n (λ j p. h j (le_step p)) s.0 in
+      let r = down-carry {q = f n q} n (λ j p. h j (le_step p)) s.0 in
       (r.0, r.1 ∙ ap (down g n) s.1)
 
 module _ (f : ℕ → Bool) where

@@ -39,7 +39,7 @@ module _ {A : Type 0} {o : Ops A} {In : A → Type 0} (l : Laws o In) where
   down-sum B c f {q} zero hc hf hq = sym (idr l (times-in l (B ^ 0) hq) ∙ ap (λ (k : ℕ). times o k q) (pow-zero B) ∙ times-one l hq)
   down-sum B c f {q} (suc n) hc hf hq =
       ap (down f n) (hf n (lt-suc_self n) q hq)
-      ∙ down-sum B c f n (λ j p. hc j (le_step p)) (λ j p. hf j (le_step p)) (op-in h_b hn)
+      ∙ down-sum B c f {q = times o B q ⊕ c n} n (λ j p. hc j (le_step p)) (λ j p. hf j (le_step p)) (op-in h_b hn)
       ∙ ap (λ x. x ⊕ S) (times-op l (B ^ n) h_b hn)
       ∙ assoc (times-in l (B ^ n) h_b) (times-in l (B ^ n) hn) h_s
       ∙ ap₂ ◌⊕◌ (sym (times-mul l (B ^ n) B hq) ∙ ap (λ (k : ℕ). times o k q) (sym (pow-suc B n))) (comm (times-in l (B ^ n) hn) h_s)

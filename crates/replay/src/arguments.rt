@@ -3,7 +3,7 @@ use crate::input::State;
 use crate::{input, list, parts};
 
 // The numbers of a case by the kinds of its arguments, a list's being its length, and what follows.
-#[derive(Drop)]
+#[derive(Clone, Copy)]
 pub(crate) struct Handed {
     pub numbers: [u64; 16],
     pub next: State,

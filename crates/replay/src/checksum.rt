@@ -4,7 +4,7 @@ ghost use Rattle.replay.specs.Checksum.{Small};
 use crate::output::byte_of;
 
 // The checksum's two running sums, modulo 4294967291.
-#[derive(Drop)]
+#[derive(Clone, Copy)]
 pub(crate) struct Sums {
     pub s: u64,
     pub t: u64,

@@ -4,7 +4,7 @@ ghost use Rattle.std.specs.Prelude.{◌≤◌};
 use libc::STDIN_FILENO;
 
 // Where reader and writer stand: the next byte of the input's buffer and how many are in it, the number read last, how many bytes wait in the output's buffer, and whether the case is malformed.
-#[derive(Drop)]
+#[derive(Clone, Copy)]
 pub(crate) struct State {
     pub at: usize,
     pub end: usize,

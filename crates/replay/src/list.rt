@@ -5,7 +5,7 @@ use crate::input::{State, bad_if, next, number, with_number};
 use crate::parts::DIGITS;
 
 // A list that is being read: how many elements it has, its mode, the element that is repeated, how many exceptions are to come and the place of the next, and what follows, with the element read last in hand.
-#[derive(Drop)]
+#[derive(Clone, Copy)]
 pub(crate) struct Elements {
     pub n: usize,
     pub mode: u64,

@@ -1,4 +1,6 @@
 // Numbers modulo L in four limbs: the group of residues.
+#![tactic(auto)]
+
 ghost use Rattle.std.specs.Prelude.{◌≡◌, leb};
 ghost use Rattle.rules.specs.Values.{value_of, element_of};
 ghost use Rattle.rules.specs.Group.{L, added, subtracted, negated, elements};

@@ -1,4 +1,6 @@
 // 32 bytes to four limbs and back, lowest first.
+#![tactic(auto)]
+
 ghost use Rattle.std.specs.Prelude.{◌≡◌, ◌*◌, ◌/◌, ◌%◌, ◌^◌, ◌<◌, get_or, take, drop};
 ghost use Rattle.rules.specs.Lent.{was};
 ghost use Rattle.rules.specs.Values.{number, places, limb, element_of, point_at};
