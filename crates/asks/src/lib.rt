@@ -1,6 +1,5 @@
 // What several calls ask of lent lists: the parts that refusals are put together from, each answering its number.
 ghost use Rattle.std.specs.Prelude.{◌≡◌, [], ◌∷◌};
-ghost use Rattle.rules.specs.Lent.{was};
 ghost use Rattle.rules.specs.Values.{optional_at};
 ghost use Rattle.rules.specs.Numbers.{absent_point, first};
 ghost use Rattle.rules.specs.Lists.{point_over, bad_lists, absent_below};
@@ -11,7 +10,7 @@ use rules::OptionalPoint;
 
 // 1 and 2 of scalars and of points without flags.
 pub fn plain_lists(scalars: &[u8], points: &[u64]) -> u8
-    ensures { result ≡ first (plain_lists (was scalars) (was points)) }
+    ensures { result ≡ first (plain_lists scalars.now points.now) }
 {
     if not_whole(scalars.len(), 32) | not_whole(points.len(), 4) {
         return 1;
@@ -24,7 +23,7 @@ pub fn plain_lists(scalars: &[u8], points: &[u64]) -> u8
 
 // 1 and 2 of scalars, points and flags.
 pub fn lists(scalars: &[u8], points: &[u64], flags: &[u8]) -> u8
-    ensures { result ≡ first (flagged_lists (was scalars) (was points) (was flags)) }
+    ensures { result ≡ first (flagged_lists scalars.now points.now flags.now) }
 {
     if flags.len() != points.len() / 4 {
         return 1;
@@ -44,7 +43,7 @@ pub fn room(needed_digits: usize, digits: usize, needed_limbs: usize, limbs: usi
 
 // Point i by its flag: absent where that is 0, and past the flags' end.
 fn optional_at(points: &[u64], flags: &[u8], i: usize) -> OptionalPoint
-    ensures { result ≡ optional_at (was points) (was flags) i }
+    ensures { result ≡ optional_at points.now flags.now i }
 {
     if flags.len() <= i {
         return OptionalPoint::Absent;
@@ -67,7 +66,7 @@ fn point_over(point: OptionalPoint) -> bool
 
 // 7: whether a flag is other than 0 and 1, or a point is so; the limbs of an absent one are not looked at.
 fn bad_lists(points: &[u64], flags: &[u8]) -> bool
-    ensures { result ≡ bad_lists (was points) (was flags) }
+    ensures { result ≡ bad_lists points.now flags.now }
 {
     let n = points.len() / 4;
     let mut i: usize = 0;
@@ -83,7 +82,7 @@ fn bad_lists(points: &[u64], flags: &[u8]) -> bool
 
 // 8: each of the first n points is taken apart.
 fn present(points: &[u64], flags: &[u8], n: usize) -> u8
-    ensures { result ≡ first ((absent_below (was points) (was flags) n, absent_point) ∷ []) }
+    ensures { result ≡ first ((absent_below points.now flags.now n, absent_point) ∷ []) }
 {
     let mut i: usize = 0;
     while i < n {
@@ -97,7 +96,7 @@ fn present(points: &[u64], flags: &[u8], n: usize) -> u8
 
 // 6 and 7 of scalars and of points without flags.
 pub fn plain_contents(scalars: &[u8], points: &[u64]) -> u8
-    ensures { result ≡ first (plain_contents (was scalars) (was points)) }
+    ensures { result ≡ first (plain_contents scalars.now points.now) }
 {
     if any_big(scalars) {
         return 6;
@@ -110,7 +109,7 @@ pub fn plain_contents(scalars: &[u8], points: &[u64]) -> u8
 
 // 6, 7 and 8 of scalars, points and flags, where the first n points are needed.
 pub fn contents(scalars: &[u8], points: &[u64], flags: &[u8], n: usize) -> u8
-    ensures { result ≡ first (flagged_contents (was scalars) (was points) (was flags) n) }
+    ensures { result ≡ first (flagged_contents scalars.now points.now flags.now n) }
 {
     if any_big(scalars) {
         return 6;

@@ -1,7 +1,6 @@
 // Prepared batches: a slot is 256 digits (NAF width 5) and 32 limbs (its window), in lent memory.
 ghost use Rattle.std.specs.Prelude.{◌≡◌, length};
 ghost use Rattle.rules.specs.declared.OptionalPoint.TheVariants.{Present};
-ghost use Rattle.rules.specs.Lent.{was, is};
 ghost use Rattle.rules.specs.Batch.{memory_of, after_edit, prepare, edge_refusal, set_slot, clear_slot, total_of};
 // The most slots of a batch, and the most scalars or points of a list: more are refused by 2.
 pub use lent::MOST;
@@ -29,7 +28,7 @@ pub fn prepare(
     digits: &mut [i8],
     windows: &mut [u64],
 ) -> Counted
-    ensures { after_edit result (is digits) (is windows) ≡ prepare (was scalars) (was points) (was flags) (memory_of (was digits) (was windows)) }
+    ensures { after_edit result digits.new windows.new ≡ prepare scalars.now points.now flags.now (memory_of digits.old windows.old) }
 {
     let n = crate::refusals::prepare_refusal(scalars, points, flags, digits.len(), windows.len());
     if n != 0 {
@@ -49,7 +48,7 @@ fn set_point(
     p: Element,
 ) -> Counted
     requires { edge_refusal (length digits.old) (length windows.old) slot scalar.now ≡ 0 }
-    ensures { after_edit result (is digits) (is windows) ≡ set_slot (memory_of (was digits) (was windows)) slot (was scalar) (Present p) }
+    ensures { after_edit result digits.new windows.new ≡ set_slot (memory_of digits.old windows.old) slot scalar.now (Present p) }
 {
     if residue::over(p) {
         return answer::refused_counted(7);
@@ -69,7 +68,7 @@ pub fn set(
     scalar: &[u8],
     point: OptionalPoint,
 ) -> Counted
-    ensures { after_edit result (is digits) (is windows) ≡ set_slot (memory_of (was digits) (was windows)) slot (was scalar) point }
+    ensures { after_edit result digits.new windows.new ≡ set_slot (memory_of digits.old windows.old) slot scalar.now point }
 {
     let n = crate::refusals::set_refusal(digits.len(), windows.len(), slot, scalar);
     if n != 0 {
@@ -83,7 +82,7 @@ pub fn set(
 
 // One slot set to scalar 0 and point 0.
 pub fn clear(digits: &mut [i8], windows: &mut [u64], slot: usize) -> Counted
-    ensures { after_edit result (is digits) (is windows) ≡ clear_slot (memory_of (was digits) (was windows)) slot }
+    ensures { after_edit result digits.new windows.new ≡ clear_slot (memory_of digits.old windows.old) slot }
 {
     let zero = [0u8; SCALAR_BYTES];
     let identity = OptionalPoint::Present(residue::identity());
@@ -92,7 +91,7 @@ pub fn clear(digits: &mut [i8], windows: &mut [u64], slot: usize) -> Counted
 
 // The sum over all slots as they stand.
 pub fn total(digits: &[i8], windows: &[u64]) -> Sum
-    ensures { result ≡ total_of (memory_of (was digits) (was windows)) }
+    ensures { result ≡ total_of (memory_of digits.now windows.now) }
 {
     let n = crate::refusals::total_refusal(digits, windows);
     if n != 0 {

@@ -1,6 +1,5 @@
 // What the calls on a batch ask.
 ghost use Rattle.std.specs.Prelude.{◌≡◌};
-ghost use Rattle.rules.specs.Lent.{was};
 ghost use Rattle.rules.specs.Numbers.{first};
 ghost use Rattle.rules.specs.Lists.{wild_digit, any_wild};
 ghost use Rattle.rules.specs.Batch.{memory_of, memory_asked, prepare_refusal, edge_refusal, total_refusal};
@@ -28,7 +27,7 @@ pub(crate) fn prepare_refusal(
     digits: usize,
     windows: usize,
 ) -> u8
-    ensures { result ≡ prepare_refusal (was scalars) (was points) (was flags) digits windows }
+    ensures { result ≡ prepare_refusal scalars.now points.now flags.now digits windows }
 {
     let a = asks::lists(scalars, points, flags);
     if a != 0 {
@@ -50,7 +49,7 @@ pub(crate) fn prepare_refusal(
 
 // The number that an edit answers before it looks at the point.
 pub(crate) fn set_refusal(digits: usize, windows: usize, slot: usize, scalar: &[u8]) -> u8
-    ensures { result ≡ edge_refusal digits windows slot (was scalar) }
+    ensures { result ≡ edge_refusal digits windows slot scalar.now }
 {
     if scalar.len() != SCALAR_BYTES {
         return 1;
@@ -84,7 +83,7 @@ fn wild(d: i8) -> bool
 
 // 10: whether a prepared digit is so.
 fn any_wild(digits: &[i8]) -> bool
-    ensures { result ≡ any_wild (was digits) }
+    ensures { result ≡ any_wild digits.now }
 {
     let mut i: usize = 0;
     while i < digits.len() {
@@ -98,7 +97,7 @@ fn any_wild(digits: &[i8]) -> bool
 
 // The number that a total answers.
 pub(crate) fn total_refusal(digits: &[i8], windows: &[u64]) -> u8
-    ensures { result ≡ total_refusal (memory_of (was digits) (was windows)) }
+    ensures { result ≡ total_refusal (memory_of digits.now windows.now) }
 {
     let n = memory(digits.len(), windows.len());
     if n != 0 {

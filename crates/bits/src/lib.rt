@@ -1,6 +1,7 @@
 // What both recodings read of a scalar, its words and the bits that wait in them, and what they refuse.
+#![tactic(auto)]
+
 ghost use Rattle.std.specs.Prelude.{◌≡◌, ◌%◌, ◌^◌};
-ghost use Rattle.rules.specs.Lent.{was};
 ghost use Rattle.rules.specs.Values.{limb};
 ghost use Rattle.rules.specs.Helpers.{five_words, waiting_bits};
 
@@ -10,7 +11,7 @@ pub use refusal::recode_refusal;
 
 // The first 32 bytes as 64-bit words, lowest first; the fifth is 0.
 pub fn five_words(scalar: &[u8]) -> [u64; 5]
-    ensures { result ≡ five_words (was scalar) }
+    ensures { result ≡ five_words scalar.now }
 {
     let e = words::element(scalar);
     [e.l0, e.l1, e.l2, e.l3, 0]

@@ -1,6 +1,5 @@
 // What a recoding of a scalar refuses.
 ghost use Rattle.std.specs.Prelude.{◌≡◌};
-ghost use Rattle.rules.specs.Lent.{was};
 ghost use Rattle.rules.specs.Rows.{recode_refusal};
 
 // The highest byte of 2^255 - 1, the largest number that has a row.
@@ -8,7 +7,7 @@ const TOP: u8 = 127;
 
 // What a recoding of widths low to 8 answers.
 pub fn recode_refusal(scalar: &[u8], low: usize, w: usize) -> u8
-    ensures { result ≡ recode_refusal low (was scalar) w }
+    ensures { result ≡ recode_refusal low scalar.now w }
 {
     if scalar.len() != 32 {
         return 1;

@@ -1,6 +1,5 @@
 // The walk down the columns of NAF rows.
 ghost use Rattle.std.specs.Prelude.{◌≡◌, ◌+◌, ◌/◌, ◌^◌, ◌<◌, min, length};
-ghost use Rattle.rules.specs.Lent.{was};
 ghost use Rattle.rules.specs.Values.{element_at};
 ghost use Rattle.rules.specs.Rows.{digit};
 ghost use Rattle.rules.specs.Loops.{nonzero, odd_entry};
@@ -21,7 +20,7 @@ pub(crate) struct Running {
 // One row's digit at place j: its entry is added, taken away where it is negative, left out where it is 0.
 pub(crate) fn moved(q: Running, row: &[i8], window: &[u64], j: usize) -> Running
     requires { (j < length row.now) × (q.additions + nonzero (digit row.now j) < 2 ^ 64) }
-    ensures { run result ≡ onward elements (digit (was row) j) (element_at (was window) (odd_entry (digit (was row) j))) (run q) }
+    ensures { run result ≡ onward elements (digit row.now j) (element_at window.now (odd_entry (digit row.now j))) (run q) }
 {
     let d = row[j];
     if d == 0 {
@@ -60,7 +59,7 @@ pub(crate) fn column(
     j: usize,
 ) -> Running
     requires { Passable digits.now windows.now unit m j q.additions }
-    ensures { run result ≡ passed elements (was digits) (window_entry unit (was windows)) m j (run q) }
+    ensures { run result ≡ passed elements digits.now (window_entry unit windows.now) m j (run q) }
 {
     let mut r = q;
     let mut i: usize = 0;
@@ -83,7 +82,7 @@ pub fn walk(
     tables: &[u64],
     places: usize,
 ) -> Walk
-    ensures { result ≡ walked (was digits) (was windows) (was static_digits) (was tables) places }
+    ensures { result ≡ walked digits.now windows.now static_digits.now tables.now places }
 {
     let m = windowed(digits.len(), windows.len(), 32);
     let s = windowed(static_digits.len(), tables.len(), 256);

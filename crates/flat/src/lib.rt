@@ -2,7 +2,6 @@
 #![tactic(auto)]
 
 ghost use Rattle.std.specs.Prelude.{◌≡◌, ◌+◌, ◌*◌, ◌<◌, get_or};
-ghost use Rattle.rules.specs.Lent.{was};
 ghost use Rattle.rules.specs.Values.{limbs_of, element_at};
 
 use rules::Element;
@@ -17,7 +16,7 @@ pub fn array(e: Element) -> [u64; 4]
 // Limb c of element i of flat limbs, 0 past their end.
 fn limb_at(l: &[u64], i: usize, c: usize) -> u64
     requires { c < 4 }
-    ensures { result ≡ get_or (was l) (4 * i + c) 0 }
+    ensures { result ≡ get_or l.now (4 * i + c) 0 }
 {
     if i < l.len() {
         let k = 4 * i + c;
@@ -29,7 +28,7 @@ fn limb_at(l: &[u64], i: usize, c: usize) -> u64
 
 // Element i where the list ends within it, or before it.
 fn last_at(l: &[u64], i: usize) -> Element
-    ensures { result ≡ element_at (was l) i }
+    ensures { result ≡ element_at l.now i }
 {
     Element {
         l0: limb_at(l, i, 0),
@@ -41,7 +40,7 @@ fn last_at(l: &[u64], i: usize) -> Element
 
 // Element i of flat limbs, 0 past their end.
 pub fn element_at(l: &[u64], i: usize) -> Element
-    ensures { result ≡ element_at (was l) i }
+    ensures { result ≡ element_at l.now i }
 {
     if l.len() / 4 <= i {
         return last_at(l, i);

@@ -1,6 +1,7 @@
 // The calls of the group on lent elements.
+#![tactic(auto)]
+
 ghost use Rattle.std.specs.Prelude.{◌≡◌};
-ghost use Rattle.rules.specs.Lent.{was};
 ghost use Rattle.rules.specs.Windows.{point_refusal};
 ghost use Rattle.rules.specs.Calls.{pair_refusal, group_add, group_subtract, group_negate, group_double};
 
@@ -8,7 +9,7 @@ use rules::Value;
 
 // What a call on one lent element answers.
 pub fn point_refusal(p: &[u64]) -> u8
-    ensures { result ≡ point_refusal (was p) }
+    ensures { result ≡ point_refusal p.now }
 {
     if p.len() != 4 {
         return 1;
@@ -21,7 +22,7 @@ pub fn point_refusal(p: &[u64]) -> u8
 
 // What a call on two lent elements answers.
 fn pair_refusal(a: &[u64], b: &[u64]) -> u8
-    ensures { result ≡ pair_refusal (was a) (was b) }
+    ensures { result ≡ pair_refusal a.now b.now }
 {
     if a.len() != 4 {
         return 1;
@@ -40,7 +41,7 @@ fn pair_refusal(a: &[u64], b: &[u64]) -> u8
 
 // The sum of two lent elements.
 pub fn add(a: &[u64], b: &[u64]) -> Value
-    ensures { result ≡ group_add (was a) (was b) }
+    ensures { result ≡ group_add a.now b.now }
 {
     let number = pair_refusal(a, b);
     if number != 0 {
@@ -51,7 +52,7 @@ pub fn add(a: &[u64], b: &[u64]) -> Value
 
 // The difference of two lent elements.
 pub fn subtract(a: &[u64], b: &[u64]) -> Value
-    ensures { result ≡ group_subtract (was a) (was b) }
+    ensures { result ≡ group_subtract a.now b.now }
 {
     let number = pair_refusal(a, b);
     if number != 0 {
@@ -62,7 +63,7 @@ pub fn subtract(a: &[u64], b: &[u64]) -> Value
 
 // The inverse of a lent element.
 pub fn negate(a: &[u64]) -> Value
-    ensures { result ≡ group_negate (was a) }
+    ensures { result ≡ group_negate a.now }
 {
     let number = point_refusal(a);
     if number != 0 {
@@ -73,7 +74,7 @@ pub fn negate(a: &[u64]) -> Value
 
 // A lent element added to itself.
 pub fn double(a: &[u64]) -> Value
-    ensures { result ≡ group_double (was a) }
+    ensures { result ≡ group_double a.now }
 {
     let number = point_refusal(a);
     if number != 0 {

@@ -1,6 +1,5 @@
 // Laying rows and windows into lent room, each made by value and copied into its part.
 ghost use Rattle.std.specs.Prelude.{◌≡◌};
-ghost use Rattle.rules.specs.Lent.{was, is};
 ghost use Rattle.rules.specs.Lists.{put};
 ghost use Rattle.rules.specs.Helpers.{row_places, row_of, laid_rows, window_entries, made, made_window, laid_windows, filled, filled_slot};
 
@@ -18,7 +17,7 @@ fn places(kind: Row) -> usize
 
 // A row into its part, which is untouched where it has another length.
 fn copy_digits(part: &mut [i8], row: &[i8])
-    ensures { is part ≡ put (was row) (was part) }
+    ensures { part.new ≡ put row.now part.old }
 {
     if part.len() != row.len() {
         return;
@@ -32,7 +31,7 @@ fn copy_digits(part: &mut [i8], row: &[i8])
 
 // The row of a scalar, into its part.
 fn row(scalar: &[u8], kind: Row, part: &mut [i8])
-    ensures { is part ≡ put (row_of kind (was scalar)) (was part) }
+    ensures { part.new ≡ put (row_of kind scalar.now) part.old }
 {
     match kind {
         Row::Naf(w) => copy_digits(&mut *part, &scalar::naf_row(scalar, w)),
@@ -42,7 +41,7 @@ fn row(scalar: &[u8], kind: Row, part: &mut [i8])
 
 // The rows of the first n scalars that there are, as far as the room goes.
 pub fn rows(scalars: &[u8], n: usize, kind: Row, digits: &mut [i8])
-    ensures { is digits ≡ laid_rows kind (was scalars) n (was digits) }
+    ensures { digits.new ≡ laid_rows kind scalars.now n digits.old }
 {
     let unit = places(kind);
     let m = lent::smaller(lent::smaller(n, scalars.len() / 32), digits.len() / unit);
@@ -70,7 +69,7 @@ fn entries(kind: Window) -> usize
 
 // The window of a point, into its part.
 fn window(p: Element, kind: Window, part: &mut [u64]) -> Counts
-    ensures { made result (is part) ≡ made_window kind p (was part) }
+    ensures { made result part.new ≡ made_window kind p part.old }
 {
     match kind {
         Window::Successive8 => window::make_successive(p, &mut *part),
@@ -81,7 +80,7 @@ fn window(p: Element, kind: Window, part: &mut [u64]) -> Counts
 
 // The windows of the first n points that there are, as far as the room goes.
 pub fn windows(points: &[u64], n: usize, kind: Window, limbs: &mut [u64]) -> Counts
-    ensures { made result (is limbs) ≡ laid_windows kind (was points) n (was limbs) }
+    ensures { made result limbs.new ≡ laid_windows kind points.now n limbs.old }
 {
     let unit = 4 * entries(kind);
     let m = lent::smaller(lent::smaller(n, points.len() / 4), limbs.len() / unit);
@@ -104,7 +103,7 @@ pub fn windows(points: &[u64], n: usize, kind: Window, limbs: &mut [u64]) -> Cou
 
 // The row (width 5) and the window of one slot, each into its part of lent memory.
 pub fn fill_slot(scalar: &[u8], point: Element, row: &mut [i8], window: &mut [u64]) -> Counts
-    ensures { filled result (is row) (is window) ≡ filled_slot (was scalar) point (was row) (was window) }
+    ensures { filled result row.new window.new ≡ filled_slot scalar.now point row.old window.old }
 {
     let digits = scalar::naf_row(scalar, 5);
     copy_digits(&mut *row, &digits);

@@ -1,6 +1,7 @@
 // Counts of lent lists, and what calls ask of one list, each after its sentence in document 01's table of numbers.
+#![tactic(auto)]
+
 ghost use Rattle.std.specs.Prelude.{◌≡◌, min};
-ghost use Rattle.rules.specs.Lent.{was};
 ghost use Rattle.rules.specs.Windows.{any_over};
 ghost use Rattle.rules.specs.Lists.{not_in, beyond_most, pairs, any_big};
 
@@ -42,14 +43,14 @@ pub fn smaller(a: usize, b: usize) -> usize
 
 // m, the smaller of the two counts.
 pub fn pairs(scalars: &[u8], points: &[u64]) -> usize
-    ensures { result ≡ pairs (was scalars) (was points) }
+    ensures { result ≡ pairs scalars.now points.now }
 {
     smaller(scalars.len() / 32, points.len() / 4)
 }
 
 // 6: whether a scalar is at or above 2^255.
 pub fn any_big(scalars: &[u8]) -> bool
-    ensures { result ≡ any_big (was scalars) }
+    ensures { result ≡ any_big scalars.now }
 {
     let n = scalars.len() / 32;
     let mut i: usize = 0;
@@ -64,7 +65,7 @@ pub fn any_big(scalars: &[u8]) -> bool
 
 // 7 or 10: whether an element of flat limbs is at or above L.
 pub fn any_over(limbs: &[u64]) -> bool
-    ensures { result ≡ any_over (was limbs) }
+    ensures { result ≡ any_over limbs.now }
 {
     let n = limbs.len() / 4;
     let mut i: usize = 0;

@@ -1,7 +1,6 @@
 // Lookup in a window by a digit.
 ghost use Rattle.std.specs.Prelude.{◌≡◌, cond, ◌≤◌, pos};
 ghost use Rattle.std.specs.Int.Signed.{lt_z};
-ghost use Rattle.rules.specs.Lent.{was};
 ghost use Rattle.rules.specs.Group.{negated};
 ghost use Rattle.rules.specs.Windows.{lookup_refusal, select, select_naf};
 ghost use Rattle.rules.specs.Helpers.{looked_up};
@@ -10,7 +9,7 @@ use rules::{Element, Value};
 
 // Entry number a, from 1, among the first eight: every entry is passed over; 0 and past them the identity.
 fn passed(window: &[u64], a: usize) -> Element
-    ensures { result ≡ looked_up 8 (was window) (pos a) }
+    ensures { result ≡ looked_up 8 window.now (pos a) }
 {
     let mut t = residue::identity();
     let mut j: usize = 0;
@@ -33,7 +32,7 @@ fn by_sign(d: i8, e: Element) -> Element
 
 // Radix lookup among eight entries: entry |d| - 1, negated for negative d; 0 gives the identity.
 pub fn looked_up(window: &[u64], d: i8) -> Element
-    ensures { result ≡ looked_up 8 (was window) d }
+    ensures { result ≡ looked_up 8 window.now d }
 {
     by_sign(d, passed(window, digit::magnitude(d)))
 }
@@ -41,7 +40,7 @@ pub fn looked_up(window: &[u64], d: i8) -> Element
 // What a lookup in a window of n entries answers: every entry is looked at.
 fn lookup_refusal(window: &[u64], n: usize, outside: bool) -> u8
     requires { n ≤ 64 }
-    ensures { result ≡ lookup_refusal n outside (was window) }
+    ensures { result ≡ lookup_refusal n outside window.now }
 {
     if window.len() != 4 * n {
         return 1;
@@ -54,7 +53,7 @@ fn lookup_refusal(window: &[u64], n: usize, outside: bool) -> u8
 
 // Radix lookup in a lent window.
 pub fn select(window: &[u64], d: i8) -> Value
-    ensures { result ≡ select (was window) d }
+    ensures { result ≡ select window.now d }
 {
     let a = digit::magnitude(d);
     let number = lookup_refusal(window, 8, 8 < a);
@@ -67,7 +66,7 @@ pub fn select(window: &[u64], d: i8) -> Value
 // NAF lookup in a lent window of n entries.
 fn select_naf(window: &[u64], d: i8, n: usize) -> Value
     requires { (1 ≤ n) × (n ≤ 64) }
-    ensures { result ≡ select_naf n (was window) d }
+    ensures { result ≡ select_naf n window.now d }
 {
     let a = digit::magnitude(d);
     let number = lookup_refusal(window, n, (a % 2 == 0) | (2 * n - 1 < a));
@@ -79,14 +78,14 @@ fn select_naf(window: &[u64], d: i8, n: usize) -> Value
 
 // NAF lookup in a lent window of width 5.
 pub fn select_naf5(window: &[u64], d: i8) -> Value
-    ensures { result ≡ select_naf 8 (was window) d }
+    ensures { result ≡ select_naf 8 window.now d }
 {
     select_naf(window, d, 8)
 }
 
 // NAF lookup in a lent window of width 8.
 pub fn select_naf8(window: &[u64], d: i8) -> Value
-    ensures { result ≡ select_naf 64 (was window) d }
+    ensures { result ≡ select_naf 64 window.now d }
 {
     select_naf(window, d, 64)
 }

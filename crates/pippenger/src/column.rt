@@ -1,6 +1,5 @@
 // One column: its points put into buckets by their digits, and the buckets summed.
 ghost use Rattle.std.specs.Prelude.{◌≡◌, ◌+◌, ◌-◌, ◌*◌, ◌<◌, ◌≤◌, length, nat_abs};
-ghost use Rattle.rules.specs.Lent.{was, is};
 ghost use Rattle.rules.specs.Values.{element_at};
 ghost use Rattle.rules.specs.Group.{elements};
 ghost use Rattle.rules.specs.Loops.{nonzero};
@@ -16,7 +15,7 @@ use rules::{Element, Walk};
 // An element into its four limbs.
 fn store(limbs: &mut [u64], k: usize, e: Element)
     requires { 4 * k + 4 ≤ length limbs.old }
-    ensures { is limbs ≡ replaced (was limbs) k e }
+    ensures { limbs.new ≡ replaced limbs.old k e }
 {
     let a = 4 * k;
     limbs[a] = e.l0;
@@ -28,7 +27,7 @@ fn store(limbs: &mut [u64], k: usize, e: Element)
 // A point into bucket |d| - 1 by its row's digit d at place j: added, or taken away where d is negative. Additions made.
 fn put(row: &[i8], j: usize, p: Element, buckets: &mut [u64]) -> u64
     requires { (j < length row.now) × (4 * nat_abs (digit row.now j) ≤ length buckets.old) }
-    ensures { (result ≡ nonzero (digit (was row) j)) × (is buckets ≡ put_flat (digit (was row) j) p (was buckets)) }
+    ensures { (result ≡ nonzero (digit row.now j)) × (buckets.new ≡ put_flat (digit row.now j) p buckets.old) }
 {
     let d = row[j];
     if d == 0 {
@@ -47,7 +46,7 @@ fn put(row: &[i8], j: usize, p: Element, buckets: &mut [u64]) -> u64
 // The points of a column into their buckets, each by its row's digit at place j.
 fn put_all(digits: &[i8], points: &[u64], m: usize, j: usize, buckets: &mut [u64]) -> u64
     requires { Placed 4 digits.now m j (length buckets.old) }
-    ensures { (result ≡ column_weight (digit_at (was digits)) m j) × (is buckets ≡ put_rows (was digits) (was points) j m (was buckets)) }
+    ensures { (result ≡ column_weight (digit_at digits.now) m j) × (buckets.new ≡ put_rows digits.now points.now j m buckets.old) }
 {
     let mut additions: u64 = 0;
     let mut i: usize = 0;
@@ -63,7 +62,7 @@ fn put_all(digits: &[i8], points: &[u64], m: usize, j: usize, buckets: &mut [u64
 // The buckets, each as often as its number says: the sum of the running sums from the last bucket down.
 fn sum_buckets(buckets: &[u64], n: usize) -> Walk
     requires { (1 < n) × (4 * n ≤ length buckets.now) }
-    ensures { (result.element ≡ bucket_sum elements (element_at (was buckets)) (n - 1)) × ((result.additions ≡ 2 * (n - 1)) × (result.doublings ≡ 0)) }
+    ensures { (result.element ≡ bucket_sum elements (element_at buckets.now) (n - 1)) × ((result.additions ≡ 2 * (n - 1)) × (result.doublings ≡ 0)) }
 {
     let mut buckets_intermediate_sum = flat::element_at(buckets, n - 1);
     let mut buckets_sum = buckets_intermediate_sum;
@@ -95,7 +94,7 @@ pub(crate) fn column(
     buckets: &mut [u64],
 ) -> Walk
     requires { Placed 4 digits.now m j (4 * n) × ((1 < n) × (4 * n ≤ length buckets.old)) }
-    ensures { ColumnMade elements 4 (was digits) (element_at (was points)) m j n (was buckets) (is buckets) result.element result.additions }
+    ensures { ColumnMade elements 4 digits.now (element_at points.now) m j n buckets.old buckets.new result.element result.additions }
 {
     room::clear_limbs(&mut *buckets, 4 * n);
     let put = put_all(digits, points, m, j, &mut *buckets);

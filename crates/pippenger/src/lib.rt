@@ -1,6 +1,5 @@
 // Pippenger: each column's points put into buckets by their digits, the buckets summed by two running sums.
 ghost use Rattle.std.specs.Prelude.{◌≡◌};
-ghost use Rattle.rules.specs.Lent.{was, is};
 ghost use Rattle.rules.specs.Engines.{after, bucket_width, pippenger_refusal, pippenger};
 
 use crate::walk::{buckets_count, walk};
@@ -24,7 +23,7 @@ fn width(scalars: usize) -> usize
 
 // The number that the call answers.
 fn refusal(scalars: &[u8], points: &[u64], flags: &[u8], digits: usize, buckets: usize) -> u8
-    ensures { result ≡ pippenger_refusal (was scalars) (was points) (was flags) digits buckets }
+    ensures { result ≡ pippenger_refusal scalars.now points.now flags.now digits buckets }
 {
     let n = asks::lists(scalars, points, flags);
     if n != 0 {
@@ -47,7 +46,7 @@ pub fn optional_multiscalar_mul(
     digits: &mut [i8],
     buckets: &mut [u64],
 ) -> Sum
-    ensures { after result (is digits) (is buckets) ≡ pippenger (was scalars) (was points) (was flags) (was digits) (was buckets) }
+    ensures { after result digits.new buckets.new ≡ pippenger scalars.now points.now flags.now digits.old buckets.old }
 {
     let n = refusal(scalars, points, flags, digits.len(), buckets.len());
     if n != 0 {

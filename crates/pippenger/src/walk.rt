@@ -1,6 +1,5 @@
 // The walk down the columns of radix rows.
 ghost use Rattle.std.specs.Prelude.{◌≡◌, ◌-◌, ◌^◌, ◌≤◌, length};
-ghost use Rattle.rules.specs.Lent.{was, is};
 ghost use Rattle.rules.specs.Values.{element_at};
 ghost use Rattle.rules.specs.Group.{elements};
 ghost use Rattle.laws.specs.BucketWalk.{Walkable, Walked};
@@ -19,7 +18,7 @@ pub(crate) fn buckets_count(w: usize) -> usize
 // The high column as it is, and from the place below it down w doublings and that place's column.
 pub(crate) fn walk(digits: &[i8], points: &[u64], m: usize, w: usize, buckets: &mut [u64]) -> Walk
     requires { Walkable 4 digits.now m w (length buckets.old) }
-    ensures { Walked elements 4 (was digits) (element_at (was points)) m w (was buckets) (is buckets) result.element result.additions result.doublings }
+    ensures { Walked elements 4 digits.now (element_at points.now) m w buckets.old buckets.new result.element result.additions result.doublings }
 {
     let n = buckets_count(w);
     let c = radix::to_radix_2w_size_hint(w);

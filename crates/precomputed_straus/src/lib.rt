@@ -1,6 +1,5 @@
 // Precomputed Straus: static tables of width 8, dynamic rows and windows of width 5.
 ghost use Rattle.std.specs.Prelude.{◌≡◌, length};
-ghost use Rattle.rules.specs.Lent.{was, is};
 ghost use Rattle.rules.specs.Engines.{after, after_new, new_tables, mixed};
 ghost use Rattle.precomputed_straus.specs.Fill.{Ready, mixed_walk};
 // The most static points: more are refused by 2.
@@ -14,7 +13,7 @@ pub const TABLE_LIMBS: usize = 256;
 
 // The static tables of points without flags.
 pub fn new(points: &[u64], tables: &mut [u64]) -> Counted
-    ensures { after_new result (is tables) ≡ new_tables (was points) (was tables) }
+    ensures { after_new result tables.new ≡ new_tables points.now tables.old }
 {
     let number = crate::refusals::new_refusal(points, tables.len());
     if number != 0 {
@@ -34,7 +33,7 @@ fn walk(
     limbs: &mut [u64],
 ) -> Walk
     requires { Ready tables.now static_scalars.now scalars.now points.now (length digits.old) (length limbs.old) }
-    ensures { result ≡ mixed_walk (was tables) (was static_scalars) (was scalars) (was points) }
+    ensures { result ≡ mixed_walk tables.now static_scalars.now scalars.now points.now }
 {
     let p = scalars.len() / 32;
     let q = static_scalars.len() / 32;
@@ -62,7 +61,7 @@ pub fn optional_mixed_multiscalar_mul(
     digits: &mut [i8],
     limbs: &mut [u64],
 ) -> Sum
-    ensures { after result (is digits) (is limbs) ≡ mixed (was tables) (was static_scalars) (was dynamic_scalars) (was dynamic_points) (was dynamic_flags) (was digits) (was limbs) }
+    ensures { after result digits.new limbs.new ≡ mixed tables.now static_scalars.now dynamic_scalars.now dynamic_points.now dynamic_flags.now digits.old limbs.old }
 {
     let number = crate::refusals::mixed_refusal(
         tables,

@@ -1,6 +1,5 @@
 // What the two calls ask of their lists.
 ghost use Rattle.std.specs.Prelude.{◌≡◌};
-ghost use Rattle.rules.specs.Lent.{was};
 ghost use Rattle.rules.specs.Numbers.{first};
 ghost use Rattle.rules.specs.Engines.{new_refusal, mixed_lists, mixed_contents, mixed_refusal};
 
@@ -8,7 +7,7 @@ use crate::{MOST_STATIC, TABLE_LIMBS};
 
 // The number that building static tables answers.
 pub(crate) fn new_refusal(points: &[u64], tables: usize) -> u8
-    ensures { result ≡ new_refusal (was points) tables }
+    ensures { result ≡ new_refusal points.now tables }
 {
     if lent::not_whole(points.len(), 4) {
         return 1;
@@ -33,7 +32,7 @@ pub(crate) fn mixed_lists(
     points: &[u64],
     flags: &[u8],
 ) -> u8
-    ensures { result ≡ first (mixed_lists (was tables) (was static_scalars) (was scalars) (was points) (was flags)) }
+    ensures { result ≡ first (mixed_lists tables.now static_scalars.now scalars.now points.now flags.now) }
 {
     if lent::not_whole(tables.len(), TABLE_LIMBS) | lent::not_whole(static_scalars.len(), 32) {
         return 1;
@@ -57,7 +56,7 @@ pub(crate) fn mixed_contents(
     points: &[u64],
     flags: &[u8],
 ) -> u8
-    ensures { result ≡ first (mixed_contents (was tables) (was static_scalars) (was scalars) (was points) (was flags)) }
+    ensures { result ≡ first (mixed_contents tables.now static_scalars.now scalars.now points.now flags.now) }
 {
     if lent::any_big(static_scalars) {
         return 6;
@@ -86,7 +85,7 @@ pub(crate) fn mixed_refusal(
     digits: usize,
     limbs: usize,
 ) -> u8
-    ensures { result ≡ mixed_refusal (was tables) (was static_scalars) (was scalars) (was points) (was flags) digits limbs }
+    ensures { result ≡ mixed_refusal tables.now static_scalars.now scalars.now points.now flags.now digits limbs }
 {
     let n = mixed_lists(tables, static_scalars, scalars, points, flags);
     if n != 0 {

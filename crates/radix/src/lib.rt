@@ -1,7 +1,6 @@
 // The radix 2^w rows of a scalar.
 ghost use Rattle.std.specs.Prelude.{◌≡◌, ◌+◌, ◌*◌, ◌/◌, ◌%◌, ◌≤◌, ◌<◌, take, pos, nat_abs};
 ghost use Rattle.std.proofs.Math.IntN.{sub_ℕ};
-ghost use Rattle.rules.specs.Lent.{was};
 ghost use Rattle.rules.specs.Values.{number};
 ghost use Rattle.rules.specs.Rows.{used_places, radix_of, radix_row, radix_row_of};
 ghost use Rattle.radix.specs.Nibbles.{Small, Nibbles};
@@ -34,7 +33,7 @@ fn top_half(x: u8) -> i8
 
 // The first 32 bytes as 64 digits from 0 to 15.
 fn nibbles(scalar: &[u8]) -> [i8; 64]
-    ensures { Nibbles result (number 256 (take 32 (was scalar))) }
+    ensures { Nibbles result (number 256 (take 32 scalar.now)) }
 {
     let mut output = [0i8; 64];
     for i in 0..32 {
@@ -71,7 +70,7 @@ fn carried(d: i8, carry: i8) -> i8
 
 // The radix-16 row: the last digit takes its carry and is not recentred.
 fn radix_16(scalar: &[u8]) -> [i8; 64]
-    ensures { result ≡ radix_row 4 (number 256 (take 32 (was scalar))) }
+    ensures { result ≡ radix_row 4 (number 256 (take 32 scalar.now)) }
 {
     let mut output = nibbles(scalar);
     for i in 0..63 {
@@ -95,7 +94,7 @@ fn digit(coef: u64, carried: u64) -> i8
 // The radix 2^w row for w = 5 to 8: the last place takes its carry and is not recentred.
 fn radix_2w(scalar: &[u8], w: usize) -> [i8; 64]
     requires { (5 ≤ w) × (w ≤ 8) }
-    ensures { result ≡ radix_row w (number 256 (take 32 (was scalar))) }
+    ensures { result ≡ radix_row w (number 256 (take 32 scalar.now)) }
 {
     let x_u64 = bits::five_words(scalar);
     let radix = bits::power(w);
@@ -114,7 +113,7 @@ fn radix_2w(scalar: &[u8], w: usize) -> [i8; 64]
 
 // The radix 2^w row of the first 32 bytes for the engines, zeros at a width outside 4 to 8.
 pub fn radix_row(scalar: &[u8], w: usize) -> [i8; 64]
-    ensures { result ≡ radix_row_of (was scalar) w }
+    ensures { result ≡ radix_row_of scalar.now w }
 {
     if w < 4 {
         return [0i8; 64];
@@ -130,7 +129,7 @@ pub fn radix_row(scalar: &[u8], w: usize) -> [i8; 64]
 
 // The radix 2^w row of a scalar.
 pub fn as_radix_2w(scalar: &[u8], w: usize) -> RadixRow
-    ensures { result ≡ radix_of (was scalar) w }
+    ensures { result ≡ radix_of scalar.now w }
 {
     let number = bits::recode_refusal(scalar, 4, w);
     if number != 0 {
@@ -143,7 +142,7 @@ pub fn as_radix_2w(scalar: &[u8], w: usize) -> RadixRow
 
 // The radix-16 row of a scalar.
 pub fn as_radix_16(scalar: &[u8]) -> RadixRow
-    ensures { result ≡ radix_of (was scalar) 4 }
+    ensures { result ≡ radix_of scalar.now 4 }
 {
     as_radix_2w(scalar, 4)
 }

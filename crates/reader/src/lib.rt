@@ -1,6 +1,5 @@
 // The row readers: a row turned back into the 32 bytes of its scalar.
 ghost use Rattle.std.specs.Prelude.{◌≡◌, ◌+◌, ◌-◌, ◌*◌, ◌^◌};
-ghost use Rattle.rules.specs.Lent.{was};
 ghost use Rattle.rules.specs.Values.{value_of, element_of};
 ghost use Rattle.rules.specs.Numbers.{bytes_answer};
 ghost use Rattle.rules.specs.Rows.{same_digit, same_row, read_naf, read_radix};
@@ -45,7 +44,7 @@ fn with_digit(q: Element, d: i8) -> Element
 
 // What a row sums to modulo 2^256, each digit weighing 2^w times the one below it.
 fn row_sum(row: &[i8], w: usize) -> Element
-    ensures { Says w (was row) result }
+    ensures { Says w row.now result }
 {
     let mut q = Element {
         l0: 0,
@@ -63,7 +62,7 @@ fn row_sum(row: &[i8], w: usize) -> Element
 
 // The 32 bytes of what a row sums to.
 fn row_bytes(row: &[i8], w: usize) -> [u8; 32]
-    ensures { SaysBytes w (was row) result }
+    ensures { SaysBytes w row.now result }
 {
     let limbs = flat::array(row_sum(row, w));
     words::bytes(&limbs)
@@ -78,7 +77,7 @@ fn same_digit(x: i8, y: i8) -> bool
 
 // Whether two rows are the same.
 fn same_row(a: &[i8], b: &[i8]) -> bool
-    ensures { result ≡ same_row (was a) (was b) }
+    ensures { result ≡ same_row a.now b.now }
 {
     if a.len() != b.len() {
         return false;
@@ -103,7 +102,7 @@ fn refused(n: u8) -> ScalarBytes
 
 // What a row of the wrong length or at the wrong width is answered.
 fn shape_refusal(row: &[i8], long: usize, low: usize, w: usize) -> u8
-    ensures { result ≡ shape_refusal long low (was row) w }
+    ensures { result ≡ shape_refusal long low row.now w }
 {
     if row.len() != long {
         return 1;
@@ -119,7 +118,7 @@ fn shape_refusal(row: &[i8], long: usize, low: usize, w: usize) -> u8
 
 // The bytes that a row sums to, where they are recoded and their row, again, is that row.
 fn compared(row: &[i8], number: u8, again: &[i8], bytes: [u8; 32]) -> ScalarBytes
-    ensures { result ≡ compared_rows (was row) number (was again) bytes }
+    ensures { result ≡ compared_rows row.now number again.now bytes }
 {
     if number != 0 {
         return refused(10);
@@ -132,7 +131,7 @@ fn compared(row: &[i8], number: u8, again: &[i8], bytes: [u8; 32]) -> ScalarByte
 
 // The scalar below 2^255 that has a NAF row of width w.
 pub fn read_naf(row: &[i8], w: usize) -> ScalarBytes
-    ensures { result ≡ read_naf (was row) w }
+    ensures { result ≡ read_naf row.now w }
 {
     let number = shape_refusal(row, 256, 2, w);
     if number != 0 {
@@ -146,7 +145,7 @@ pub fn read_naf(row: &[i8], w: usize) -> ScalarBytes
 
 // The scalar below 2^255 that has a radix 2^w row.
 pub fn read_radix(row: &[i8], w: usize) -> ScalarBytes
-    ensures { result ≡ read_radix (was row) w }
+    ensures { result ≡ read_radix row.now w }
 {
     let number = shape_refusal(row, 64, 4, w);
     if number != 0 {

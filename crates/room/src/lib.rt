@@ -1,6 +1,5 @@
 // Lent room: its first units, and clearing.
 ghost use Rattle.std.specs.Prelude.{◌≡◌, pos};
-ghost use Rattle.rules.specs.Lent.{was, is};
 ghost use Rattle.rules.specs.Numbers.{cleared};
 
 use lent::smaller;
@@ -9,7 +8,7 @@ pub mod parts;
 
 // Zeros in the first n digits that there are.
 pub fn clear_digits(digits: &mut [i8], n: usize)
-    ensures { is digits ≡ cleared (pos 0) n (was digits) }
+    ensures { digits.new ≡ cleared (pos 0) n digits.old }
 {
     let end = smaller(n, digits.len());
     let mut j: usize = 0;
@@ -21,7 +20,7 @@ pub fn clear_digits(digits: &mut [i8], n: usize)
 
 // Zeros in the first n limbs that there are.
 pub fn clear_limbs(limbs: &mut [u64], n: usize)
-    ensures { is limbs ≡ cleared 0 n (was limbs) }
+    ensures { limbs.new ≡ cleared 0 n limbs.old }
 {
     let end = smaller(n, limbs.len());
     let mut i: usize = 0;

@@ -1,6 +1,5 @@
 // The first n units of lent memory, and all of it where it has no more: for programs that learn at run time how many pairs or slots they have. A unit is so many places: 32 bytes for a scalar, 4 limbs for a point, 256 digits and 32 limbs for a slot.
 ghost use Rattle.std.specs.Prelude.{◌≡◌, ◌*◌, min};
-ghost use Rattle.rules.specs.Lent.{was};
 ghost use Rattle.rules.specs.Parts.{first_units};
 
 // How many of so many places the first n units take.
@@ -18,7 +17,7 @@ fn places(unit: usize, n: usize, len: usize) -> usize
 
 // Scalars, or flags in units of one.
 pub fn bytes(scalars: &[u8], unit: usize, n: usize) -> &[u8]
-    ensures { result.now ≡ first_units unit n (was scalars) }
+    ensures { result.now ≡ first_units unit n scalars.now }
 {
     let end = places(unit, n, scalars.len());
     &scalars[..end]
@@ -26,7 +25,7 @@ pub fn bytes(scalars: &[u8], unit: usize, n: usize) -> &[u8]
 
 // Points, or static tables in units of 256 limbs.
 pub fn limbs(points: &[u64], unit: usize, n: usize) -> &[u64]
-    ensures { result.now ≡ first_units unit n (was points) }
+    ensures { result.now ≡ first_units unit n points.now }
 {
     let end = places(unit, n, points.len());
     &points[..end]
@@ -34,7 +33,7 @@ pub fn limbs(points: &[u64], unit: usize, n: usize) -> &[u64]
 
 // Digits that a call may write: working room for n pairs, or the rows of n slots.
 pub fn digit_room(digits: &mut [i8], unit: usize, n: usize) -> &mut [i8]
-    ensures { result.now ≡ first_units unit n (was digits) }
+    ensures { result.now ≡ first_units unit n digits.old }
 {
     let end = places(unit, n, digits.len());
     &mut digits[..end]
@@ -42,7 +41,7 @@ pub fn digit_room(digits: &mut [i8], unit: usize, n: usize) -> &mut [i8]
 
 // Limbs that a call may write: working room for n pairs, or the windows of n slots.
 pub fn limb_room(windows: &mut [u64], unit: usize, n: usize) -> &mut [u64]
-    ensures { result.now ≡ first_units unit n (was windows) }
+    ensures { result.now ≡ first_units unit n windows.old }
 {
     let end = places(unit, n, windows.len());
     &mut windows[..end]

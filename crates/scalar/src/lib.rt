@@ -1,6 +1,5 @@
 // The non-adjacent form of a scalar: its row of digits.
 ghost use Rattle.std.specs.Prelude.{◌≡◌, ◌≤◌, take};
-ghost use Rattle.rules.specs.Lent.{was};
 ghost use Rattle.rules.specs.Values.{number};
 ghost use Rattle.rules.specs.Rows.{naf_of, naf_row, naf_row_of};
 ghost use Rattle.scalar.specs.Wrap.{wrapped};
@@ -22,7 +21,7 @@ fn wrapping_digit(window: u64, width: u64) -> i8
 // The digits of the non-adjacent form of width w.
 fn naf_digits(scalar: &[u8], w: usize) -> [i8; 256]
     requires { (2 ≤ w) × (w ≤ 8) }
-    ensures { result ≡ naf_row w (number 256 (take 32 (was scalar))) }
+    ensures { result ≡ naf_row w (number 256 (take 32 scalar.now)) }
 {
     let mut naf = [0i8; 256];
     let x_u64 = bits::five_words(scalar);
@@ -49,7 +48,7 @@ fn naf_digits(scalar: &[u8], w: usize) -> [i8; 256]
 
 // The NAF row of the first 32 bytes for the engines, zeros at a width outside 2 to 8.
 pub fn naf_row(scalar: &[u8], w: usize) -> [i8; 256]
-    ensures { result ≡ naf_row_of (was scalar) w }
+    ensures { result ≡ naf_row_of scalar.now w }
 {
     if w < 2 {
         return [0i8; 256];
@@ -62,7 +61,7 @@ pub fn naf_row(scalar: &[u8], w: usize) -> [i8; 256]
 
 // The NAF row of a scalar, width w.
 pub fn non_adjacent_form(scalar: &[u8], w: usize) -> NafRow
-    ensures { result ≡ naf_of (was scalar) w }
+    ensures { result ≡ naf_of scalar.now w }
 {
     let number = bits::recode_refusal(scalar, 2, w);
     if number != 0 {

@@ -1,6 +1,5 @@
 // Straus: radix 16 on points without flags, and NAF of width 5 on optional points.
 ghost use Rattle.std.specs.Prelude.{◌≡◌};
-ghost use Rattle.rules.specs.Lent.{was, is};
 ghost use Rattle.rules.specs.Engines.{after, radix_straus, naf_straus};
 
 use rules::{Row, Sum, Window};
@@ -10,7 +9,7 @@ pub(crate) mod radix;
 
 // Radix-16 Straus.
 pub fn multiscalar_mul(scalars: &[u8], points: &[u64], digits: &mut [i8], limbs: &mut [u64]) -> Sum
-    ensures { after result (is digits) (is limbs) ≡ radix_straus (was scalars) (was points) (was digits) (was limbs) }
+    ensures { after result digits.new limbs.new ≡ radix_straus scalars.now points.now digits.old limbs.old }
 {
     let number = crate::radix::refusal(scalars, points, digits.len(), limbs.len());
     if number != 0 {
@@ -37,7 +36,7 @@ pub fn optional_multiscalar_mul(
     digits: &mut [i8],
     limbs: &mut [u64],
 ) -> Sum
-    ensures { after result (is digits) (is limbs) ≡ naf_straus (was scalars) (was points) (was flags) (was digits) (was limbs) }
+    ensures { after result digits.new limbs.new ≡ naf_straus scalars.now points.now flags.now digits.old limbs.old }
 {
     let n = crate::naf::refusal(scalars, points, flags, digits.len(), limbs.len());
     if n != 0 {

@@ -1,6 +1,5 @@
 // NAF Straus: what it asks of its lists.
 ghost use Rattle.std.specs.Prelude.{◌≡◌};
-ghost use Rattle.rules.specs.Lent.{was};
 ghost use Rattle.rules.specs.Engines.{naf_straus_refusal};
 
 // The number that the call answers.
@@ -11,7 +10,7 @@ pub(crate) fn refusal(
     digits: usize,
     limbs: usize,
 ) -> u8
-    ensures { result ≡ naf_straus_refusal (was scalars) (was points) (was flags) digits limbs }
+    ensures { result ≡ naf_straus_refusal scalars.now points.now flags.now digits limbs }
 {
     let n = asks::lists(scalars, points, flags);
     if n != 0 {

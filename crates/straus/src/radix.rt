@@ -1,6 +1,5 @@
 // Radix-16 Straus: what it asks, and the walk that adds at every place.
 ghost use Rattle.std.specs.Prelude.{◌≡◌, ◌<◌, ◌+◌, ◌^◌, length};
-ghost use Rattle.rules.specs.Lent.{was, is};
 ghost use Rattle.rules.specs.Group.{added, elements};
 ghost use Rattle.rules.specs.Rows.{digit};
 ghost use Rattle.rules.specs.Engines.{radix_straus_refusal};
@@ -12,7 +11,7 @@ use rules::{Element, Walk};
 
 // The number that the call answers.
 pub(crate) fn refusal(scalars: &[u8], points: &[u64], digits: usize, limbs: usize) -> u8
-    ensures { result ≡ radix_straus_refusal (was scalars) (was points) digits limbs }
+    ensures { result ≡ radix_straus_refusal scalars.now points.now digits limbs }
 {
     let n = asks::plain_lists(scalars, points);
     if n != 0 {
@@ -29,7 +28,7 @@ pub(crate) fn refusal(scalars: &[u8], points: &[u64], digits: usize, limbs: usiz
 // q with one row's entry at place j added, also where its digit is 0.
 pub(crate) fn added(q: Element, row: &[i8], window: &[u64], j: usize) -> Element
     requires { j < length row.now }
-    ensures { result ≡ added q (looked_up 8 (was window) (digit (was row) j)) }
+    ensures { result ≡ added q (looked_up 8 window.now (digit row.now j)) }
 {
     residue::plus(q, lookup::looked_up(window, row[j]))
 }
@@ -44,7 +43,7 @@ pub(crate) fn column(
     additions: &mut u64,
 ) -> Element
     requires { Rows m digits.now limbs.now × (j < 64) × (additions.old + m < 2 ^ 64) }
-    ensures { (result ≡ radix_column elements (row_entry (was digits) (was limbs)) m j q) × (is additions ≡ was additions + m) }
+    ensures { (result ≡ radix_column elements (row_entry digits.now limbs.now) m j q) × (additions.new ≡ additions.old + m) }
 {
     let mut r = q;
     let mut i: usize = 0;
@@ -63,7 +62,7 @@ pub(crate) fn column(
 // From the highest of 64 places down: four doublings, then the column.
 pub(crate) fn walk(digits: &[i8], limbs: &[u64], m: usize) -> Walk
     requires { Rows m digits.now limbs.now }
-    ensures { result ≡ radix_walked (was digits) (was limbs) m }
+    ensures { result ≡ radix_walked digits.now limbs.now m }
 {
     let mut q = residue::identity();
     let mut additions: u64 = 0;

@@ -1,6 +1,5 @@
 // Single base: a scalar times a point, radix 16.
 ghost use Rattle.std.specs.Prelude.{◌≡◌};
-ghost use Rattle.rules.specs.Lent.{was};
 ghost use Rattle.rules.specs.Engines.{single_refusal, single};
 ghost use Rattle.variable_base.specs.Walked.{walked_down};
 
@@ -8,7 +7,7 @@ use rules::{Sum, Walk};
 
 // The last digit's entry, and from the place below it down four doublings and that digit's entry.
 fn walk(row: [i8; 64], window: &[u64]) -> Walk
-    ensures { result ≡ walked_down row (was window) }
+    ensures { result ≡ walked_down row window.now }
 {
     let mut q = residue::plus(residue::identity(), lookup::looked_up(window, row[63]));
     let mut additions: u64 = 1;
@@ -32,7 +31,7 @@ fn walk(row: [i8; 64], window: &[u64]) -> Walk
 
 // The number that the call answers.
 fn refusal(point: &[u64], scalar: &[u8]) -> u8
-    ensures { result ≡ single_refusal (was point) (was scalar) }
+    ensures { result ≡ single_refusal point.now scalar.now }
 {
     if (point.len() != 4) | (scalar.len() != 32) {
         return 1;
@@ -42,7 +41,7 @@ fn refusal(point: &[u64], scalar: &[u8]) -> u8
 
 // Single base.
 pub fn mul(point: &[u64], scalar: &[u8]) -> Sum
-    ensures { result ≡ single (was point) (was scalar) }
+    ensures { result ≡ single point.now scalar.now }
 {
     let n = refusal(point, scalar);
     if n != 0 {

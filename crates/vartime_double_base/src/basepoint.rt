@@ -1,6 +1,5 @@
 // The basepoint's NAF window of width 8.
 ghost use Rattle.std.specs.Prelude.{◌≡◌};
-ghost use Rattle.rules.specs.Lent.{was};
 ghost use Rattle.rules.specs.Group.{residues};
 ghost use Rattle.rules.specs.Windows.{odd, limbs_flat};
 ghost use Rattle.rules.specs.Helpers.{walked};
@@ -22,7 +21,7 @@ const ODD_MULTIPLES_OF_BASEPOINT: [u64; 256] = [
 
 // The walk down the columns of one dynamic row, and of the basepoint's row on that window.
 pub(crate) fn walk(row: &[i8], window: &[u64], basepoint_row: &[i8], places: usize) -> Walk
-    ensures { result ≡ walked (was row) (was window) (was basepoint_row) (limbs_flat (odd residues 1) 64) places }
+    ensures { result ≡ walked row.now window.now basepoint_row.now (limbs_flat (odd residues 1) 64) places }
 {
     columns::walk(
         row,

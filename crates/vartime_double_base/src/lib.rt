@@ -1,6 +1,5 @@
 // Double base: aA + b * basepoint, rows of width 5 and 8.
 ghost use Rattle.std.specs.Prelude.{◌≡◌, length};
-ghost use Rattle.rules.specs.Lent.{was};
 ghost use Rattle.rules.specs.Engines.{double_refusal, start_place, double};
 
 use rules::Sum;
@@ -10,7 +9,7 @@ pub(crate) mod basepoint;
 // The start place: from place 255 down the first where either row is not 0, or 0.
 fn start(a: &[i8], b: &[i8]) -> usize
     requires { (length a.now ≡ 256) × (length b.now ≡ 256) }
-    ensures { result ≡ start_place (was a) (was b) }
+    ensures { result ≡ start_place a.now b.now }
 {
     let mut i: usize = 255;
     let at = loop {
@@ -30,7 +29,7 @@ fn start(a: &[i8], b: &[i8]) -> usize
 
 // The number that the call answers.
 fn refusal(a: &[u8], point: &[u64], b: &[u8]) -> u8
-    ensures { result ≡ double_refusal (was a) (was point) (was b) }
+    ensures { result ≡ double_refusal a.now point.now b.now }
 {
     if (a.len() != 32) | (point.len() != 4) | (b.len() != 32) {
         return 1;
@@ -43,7 +42,7 @@ fn refusal(a: &[u8], point: &[u64], b: &[u8]) -> u8
 
 // Double base.
 pub fn mul(a: &[u8], point: &[u64], b: &[u8]) -> Sum
-    ensures { result ≡ double (was a) (was point) (was b) }
+    ensures { result ≡ double a.now point.now b.now }
 {
     let number = refusal(a, point, b);
     if number != 0 {

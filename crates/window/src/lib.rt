@@ -1,6 +1,7 @@
 // Windows of a point.
+#![tactic(auto)]
+
 ghost use Rattle.std.specs.Prelude.{◌≡◌};
-ghost use Rattle.rules.specs.Lent.{was, is};
 ghost use Rattle.rules.specs.Group.{elements};
 ghost use Rattle.rules.specs.Windows.{stepped, lookup_table, naf_lookup_table5, naf_lookup_table8};
 ghost use Rattle.rules.specs.Lists.{put, joined};
@@ -12,7 +13,7 @@ use rules::{Counts, Element, Window8, Window64};
 // Eight entries from p on, each from the one before by adding s.
 fn stepped8(p: Element, s: Element, additions: &mut u64) -> [[u64; 4]; 8]
     requires { additions.old ≡ 0 }
-    ensures { (joined result ≡ elements_flat (stepped elements s p) 8) × (is additions ≡ 7) }
+    ensures { (joined result ≡ elements_flat (stepped elements s p) 8) × (additions.new ≡ 7) }
 {
     let first = flat::array(p);
     let mut t = [first; 8];
@@ -31,7 +32,7 @@ fn stepped8(p: Element, s: Element, additions: &mut u64) -> [[u64; 4]; 8]
 // Sixty-four entries from p on, each from the one before by adding s.
 fn stepped64(p: Element, s: Element, additions: &mut u64) -> [[u64; 4]; 64]
     requires { additions.old ≡ 0 }
-    ensures { (joined result ≡ elements_flat (stepped elements s p) 64) × (is additions ≡ 63) }
+    ensures { (joined result ≡ elements_flat (stepped elements s p) 64) × (additions.new ≡ 63) }
 {
     let first = flat::array(p);
     let mut t = [first; 64];
@@ -50,7 +51,7 @@ fn stepped64(p: Element, s: Element, additions: &mut u64) -> [[u64; 4]; 64]
 // A window into its part, limb by limb; a part of another length is untouched.
 fn copy_window(part: &mut [u64], window: &[[u64; 4]])
     requires { Each 4 window.now }
-    ensures { is part ≡ put (joined (was window)) (was part) }
+    ensures { part.new ≡ put (joined window.now) part.old }
 {
     let n = part.len();
     if n != 4 * window.len() {
@@ -65,7 +66,7 @@ fn copy_window(part: &mut [u64], window: &[[u64; 4]])
 
 // 1P to 8P into their part of lent memory.
 pub fn make_successive(p: Element, part: &mut [u64]) -> Counts
-    ensures { made result (is part) ≡ made_successive 8 p (was part) }
+    ensures { made result part.new ≡ made_successive 8 p part.old }
 {
     let mut additions: u64 = 0;
     let t = stepped8(p, p, &mut additions);
@@ -78,7 +79,7 @@ pub fn make_successive(p: Element, part: &mut [u64]) -> Counts
 
 // 1P, 3P, .. 15P into their part of lent memory.
 pub fn make_odd8(p: Element, part: &mut [u64]) -> Counts
-    ensures { made result (is part) ≡ made_odd 8 p (was part) }
+    ensures { made result part.new ≡ made_odd 8 p part.old }
 {
     let mut additions: u64 = 0;
     let s = residue::twice(p);
@@ -92,7 +93,7 @@ pub fn make_odd8(p: Element, part: &mut [u64]) -> Counts
 
 // 1P, 3P, .. 127P into their part of lent memory.
 pub fn make_odd64(p: Element, part: &mut [u64]) -> Counts
-    ensures { made result (is part) ≡ made_odd 64 p (was part) }
+    ensures { made result part.new ≡ made_odd 64 p part.old }
 {
     let mut additions: u64 = 0;
     let s = residue::twice(p);
@@ -106,7 +107,7 @@ pub fn make_odd64(p: Element, part: &mut [u64]) -> Counts
 
 // The radix window of a lent point.
 pub fn lookup_table(point: &[u64]) -> Window8
-    ensures { result ≡ lookup_table (was point) }
+    ensures { result ≡ lookup_table point.now }
 {
     let mut limbs = [0u64; 32];
     let number = group::point_refusal(point);
@@ -118,7 +119,7 @@ pub fn lookup_table(point: &[u64]) -> Window8
 
 // The NAF window of width 5 of a lent point.
 pub fn naf_lookup_table5(point: &[u64]) -> Window8
-    ensures { result ≡ naf_lookup_table5 (was point) }
+    ensures { result ≡ naf_lookup_table5 point.now }
 {
     let mut limbs = [0u64; 32];
     let number = group::point_refusal(point);
@@ -130,7 +131,7 @@ pub fn naf_lookup_table5(point: &[u64]) -> Window8
 
 // The NAF window of width 8 of a lent point.
 pub fn naf_lookup_table8(point: &[u64]) -> Window64
-    ensures { result ≡ naf_lookup_table8 (was point) }
+    ensures { result ≡ naf_lookup_table8 point.now }
 {
     let mut limbs = [0u64; 256];
     let number = group::point_refusal(point);

@@ -2,14 +2,13 @@
 #![tactic(auto)]
 
 ghost use Rattle.std.specs.Prelude.{◌≡◌, ◌*◌, ◌/◌, ◌%◌, ◌^◌, ◌<◌, get_or, take, drop};
-ghost use Rattle.rules.specs.Lent.{was};
 ghost use Rattle.rules.specs.Values.{number, places, limb, element_of, point_at};
 
 use rules::Element;
 
 // Byte k of a list, 0 past its end.
 pub fn byte_at(bytes: &[u8], k: usize) -> u8
-    ensures { result ≡ get_or (was bytes) k 0 }
+    ensures { result ≡ get_or bytes.now k 0 }
 {
     if k < bytes.len() { bytes[k] } else { 0 }
 }
@@ -17,7 +16,7 @@ pub fn byte_at(bytes: &[u8], k: usize) -> u8
 // Limb i of what the bytes say: eight of them, lowest first.
 fn limb_of(bytes: &[u8], i: usize) -> u64
     requires { i < 4 }
-    ensures { (result ≡ number 256 (take 8 (drop (8 * i) (was bytes)))) × (result < limb) }
+    ensures { (result ≡ number 256 (take 8 (drop (8 * i) bytes.now))) × (result < limb) }
 {
     let mut x: u64 = 0;
     let mut k: usize = 8;
@@ -30,7 +29,7 @@ fn limb_of(bytes: &[u8], i: usize) -> u64
 
 // The first 32 bytes as four limbs; bytes past their end are 0.
 pub fn element(bytes: &[u8]) -> Element
-    ensures { result ≡ element_of (number 256 (take 32 (was bytes))) }
+    ensures { result ≡ element_of (number 256 (take 32 bytes.now)) }
 {
     Element {
         l0: limb_of(bytes, 0),
@@ -53,7 +52,7 @@ pub fn byte_of(x: u64, k: usize) -> u8
 
 // The 32 bytes of the first four limbs; limbs past their end are 0.
 pub fn bytes(list: &[u64]) -> [u8; 32]
-    ensures { result ≡ places 256 32 (point_at (was list) 0) }
+    ensures { result ≡ places 256 32 (point_at list.now 0) }
 {
     let x = flat::array(flat::element_at(list, 0));
     let mut bytes = [0u8; 32];

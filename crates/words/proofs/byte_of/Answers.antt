@@ -8,12 +8,6 @@ use lib.Bits.{and_mask}
 use lib.Pow.{pow_mono}
 use Rattle.words.proofs.byte_of.Goals as goal
 
-pub overflow_cast-result : goal.overflow_cast-result
-overflow_cast-result c = let a = c.args in omega (arith, and_mask (a.x / 2 ^ (8 * a.k)) 8)
-
-pub returns-then-k-lt8 : goal.returns-then-k-lt8
-returns-then-k-lt8 c = and_mask _ 8
-
 pub returns-else-k-lt8 : goal.returns-else-k-lt8
 returns-else-k-lt8 c =
     let a = c.args in

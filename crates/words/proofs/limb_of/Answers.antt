@@ -22,17 +22,14 @@ room l b k n x h e =
 pub overflow_mul-x : goal.overflow_mul-x
 overflow_mul-x c =
     let a = c.args in
-    omega (arith, room a.bytes.now (λ i. (c.shared_slice_known-1.given i).fits) _ (8 * a.i + c.loop-k.k) _ c.loop-k-test.true c.loop-k.invariant.1)
-
-pub byte_at-requires : goal.byte_at-requires
-byte_at-requires c = tt
+    omega (arith, room a.bytes.now (λ i. (c.type_inv.bytes i).fits) _ (8 * a.i + c.loop-k.k) _ c.loop-k-test.true c.loop-k.invariant.1)
 
 pub overflow_add-x : goal.overflow_add-x
 overflow_add-x c =
     let a = c.args in
     omega (
       arith,
-      room a.bytes.now (λ i. (c.shared_slice_known-1.given i).fits) _ (8 * a.i + c.loop-k.k) _ c.loop-k-test.true c.loop-k.invariant.1,
+      room a.bytes.now (λ i. (c.type_inv.bytes i).fits) _ (8 * a.i + c.loop-k.k) _ c.loop-k-test.true c.loop-k.invariant.1,
     )
 
 turn : (l : List ℕ) (n k x y : ℕ) → 0 < k → k ≤ 8 → x ≡ number 256 (take (8 - k) (drop (n + k) l)) → y ≡ get_or l (n + (k - 1)) 0
@@ -47,12 +44,3 @@ loop-k-preserved c = (
   omega arith,
   turn _ _ _ _ _ c.loop-k-test.true c.loop-k.invariant.0 c.loop-k.invariant.1 c.byte_at.ensures,
 )
-
-pub returns : goal.returns
-returns c =
-    let a = c.args in
-    let z : c.loop-k.k ≡ 0 = omega arith in
-    let p : 8 * a.i + 0 ≡ 8 * a.i = omega arith in
-    let e : c.loop-k.x ≡ number 256 (take 8 (drop (8 * a.i) a.bytes.now)) =
-    c.loop-k.invariant.1 ∙ rw z (ap (λ (n : ℕ). number 256 (take 8 (drop n a.bytes.now))) p) in
-    (e, omega (arith, part-lt 8 a.bytes.now (λ i. (c.shared_slice_known-1.given i).fits) 8 (8 * a.i)))

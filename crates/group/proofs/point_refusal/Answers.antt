@@ -1,0 +1,14 @@
+-- The first test that holds gives the number.
+use Rattle.std.proofs.Common.{rules}
+use mathlib.Core.Bool.{true, false}
+use Rattle.group.proofs.Answers.{tested, point-short, point-tested}
+use Rattle.group.proofs.point_refusal.Goals as goal
+
+pub returns-then-p-ne4 : goal.returns-then-p-ne4
+returns-then-p-ne4 c = point-short _ c.if-p-ne4.true
+
+pub returns-then-over : goal.returns-then-over
+returns-then-over c = point-tested _ true c.if-p-ne4.false (tested _ c.over.ensures c.element_at.ensures c.if-over.true)
+
+pub returns : goal.returns
+returns c = point-tested _ false c.if-p-ne4.false (tested _ c.over.ensures c.element_at.ensures c.if-over.false)

@@ -1,0 +1,13 @@
+-- A search: none of the elements passed is at or above L.
+use mathlib.Core.Bool.{Bool, false}
+use mathlib.Core.Path.{◌≡◌, sym, ap, ◌∙◌}
+use Prim.Native.Nat.{ℕ, ◌≤◌, ◌-◌}
+use Rattle.rules.specs.Numbers.{any_below}
+use Rattle.rules.specs.Windows.{over, any_over}
+use Rattle.lent.proofs.any_over.Given as goal
+
+abbrev pub invariant-loop-i : goal.invariant-loop-i
+invariant-loop-i l = (l.i ≤ l.n) × (any_below (over l.limbs) l.i ≡ false)
+
+abbrev pub decreases-loop-i : goal.decreases-loop-i
+decreases-loop-i l = l.n - l.i

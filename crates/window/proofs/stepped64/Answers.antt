@@ -1,0 +1,17 @@
+use Rattle.std.proofs.Common.{rules}
+use mathlib.Core.Path.{refl}
+use Prim.Native.Nat.{◌-◌}
+use native.Mathlib.Omega.{arith}
+use Rattle.rules.specs.Values.{limbs_of}
+use Rattle.rules.specs.Group.{elements}
+use Rattle.laws.proofs.Stepping.{Built, built-first, built-more, built-all}
+use Rattle.window.proofs.stepped64.Goals as goal
+
+pub loop-i-init : goal.loop-i-init
+loop-i-init c = built-first elements limbs_of 64 _ _ _ (omega arith) c.requires refl c.array-first.ensures
+
+pub loop-i-preserved : goal.loop-i-preserved
+loop-i-preserved c = built-more elements limbs_of 64 _ _ c.loop-i.invariant (omega arith) c.plus-e.ensures c.array-l.ensures
+
+pub returns : goal.returns
+returns c = built-all elements limbs_of 64 _ _ c.loop-i.invariant (omega arith)
