@@ -1,4 +1,6 @@
 // What several calls ask of lent lists: the parts that refusals are put together from, each answering its number.
+#![tactic(auto)]
+
 ghost use Rattle.std.specs.Prelude.{◌≡◌, [], ◌∷◌};
 ghost use Rattle.rules.specs.Values.{optional_at};
 ghost use Rattle.rules.specs.Numbers.{absent_point, first};

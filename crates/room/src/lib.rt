@@ -1,4 +1,6 @@
 // Lent room: its first units, and clearing.
+#![tactic(auto)]
+
 ghost use Rattle.std.specs.Prelude.{◌≡◌, pos};
 ghost use Rattle.rules.specs.Numbers.{cleared};
 

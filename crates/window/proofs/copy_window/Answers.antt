@@ -15,25 +15,19 @@ part-long l = window-long 4 (lit< tt) _ l.before.before.requires _ l.before.if1.
 pub returns-then-n-window : goal.returns-then-n-window
 returns-then-n-window c = window-other 4 (lit< tt) _ c.requires _ c.if-n-window.true
 
-pub loop-i-init : goal.loop-i-init
-loop-i-init c = (omega arith, refl)
-
 -- GONE bounds-1-part
 -- index-1-part c = omega (arith, c.before.before.if1.false)
 
 -- GONE bounds-2-part
 -- index-2-part c = omega arith
 
-pub bounds-part-i : goal.bounds-part-i
-bounds-part-i c = omega (arith, part-long c, c.loop-i-test.true)
-
 pub loop-i-preserved : goal.loop-i-preserved
 loop-i-preserved c =
     
     (omega arith, window-turn 4 (lit< tt) _ c.requires _ c.if-n-window.false _ _ c.loop-i.invariant.1 c.loop-i-test.true)
 
-pub shape_of-part : goal.shape_of-part
-shape_of-part c = part-long c
+-- GONE same-length
+-- same_length c = part-long c.before
 
 pub returns : goal.returns
 returns c =

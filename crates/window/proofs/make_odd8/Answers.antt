@@ -9,6 +9,9 @@ use Rattle.window.proofs.make_odd8.Goals as goal
 pub copy_window-requires : goal.copy_window-requires
 copy_window-requires c = window-each 4 8 c.stepped8-t.result _ c.stepped8-t.type-inv
 
+-- GONE same-length
+-- same_length c = search rules
+
 pub returns : goal.returns
 returns c =
     

@@ -12,6 +12,3 @@ loop-i-init c = built-first elements limbs_of 8 _ _ _ (omega arith) c.requires r
 
 pub loop-i-preserved : goal.loop-i-preserved
 loop-i-preserved c = built-more elements limbs_of 8 _ _ c.loop-i.invariant (omega arith) c.plus-e.ensures c.array-l.ensures
-
-pub returns : goal.returns
-returns c = built-all elements limbs_of 8 _ _ c.loop-i.invariant (omega arith)
