@@ -1,5 +1,4 @@
 -- The radix row of a scalar, or why there is none.
-use borrow.Author.Rules.{rules}
 use mathlib.Core.Path.{◌≡◌, sym, ap, ◌∙◌}
 use mathlib.Core.List.{List}
 use Prim.Native.Nat.{ℕ}
@@ -10,8 +9,7 @@ use Rattle.rules.specs.Numbers.{radix_answer}
 use Rattle.rules.specs.Rows.{recode_refusal, radix_row, radix_row_of, radix_of}
 use Rattle.laws.specs.Conditions.{given-done, given-refused}
 use Rattle.bits.proofs.Refusals.{passed, all-taken}
-use Rattle.radix.proofs.as_radix_2w.Statement.{statement}
-use Rattle.radix.proofs.as_radix_2w.Tie as tie
+use Rattle.radix.proofs.as_radix_2w.Goals as goal
 
 -- refused, and done
 module _ (l : List ℕ) (w n : ℕ) where
@@ -25,18 +23,8 @@ module _ (l : List ℕ) (w n : ℕ) where
       let p = passed 4 l w (sym z ∙ e) in
       rw (← e, z, given-done (replicate 64 (pos 0)) (radix_row w (number 256 l))) (ap (λ (x : List ℤ). record { number = 0; row = x }) (r ∙ rw (p.1.0, all-taken l p.0)))
 
-recode-refusal-requires : tie.Need-recode-refusal-requires
-recode-refusal-requires c κs = search rules
+pub returns-then-number-ne0 : goal.returns-then-number-ne0
+returns-then-number-ne0 c = refused _ _ _ c.recode_refusal-number.ensures c.if-number-ne0.true
 
-returns : tie.Need-returns
-returns c = refused _ _ _ c.before.recode-refusal.ensures c.if1.true
-
-radix-row-requires : tie.Need-radix-row-requires
-radix-row-requires c κs = search rules
-
-returns-2 : tie.Need-returns-2
-returns-2 c = done _ _ _ c.before.before.recode-refusal.ensures c.before.if1.false _ c.radix-row.ensures
-
-pub as-radix-2w-spec : {M : Type 1} → statement M
-as-radix-2w-spec =
-    tie.close (tie.spec recode-refusal-requires returns radix-row-requires returns-2)
+pub returns : goal.returns
+returns c = done _ _ _ c.recode_refusal-number.ensures c.if-number-ne0.false _ c.radix_row-row.ensures
