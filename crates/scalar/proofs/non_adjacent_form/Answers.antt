@@ -1,12 +1,11 @@
 -- The NAF row of a scalar, or why there is none.
-use Rattle.std.proofs.Common.{◌≡◌, ℕ, List, replicate, ℤ, pos, sym, ap, ◌∙◌, rules}
+use Rattle.std.proofs.Common.{◌≡◌, ℕ, List, replicate, ℤ, pos, sym, ap, ◌∙◌}
 use Rattle.rules.specs.Values.{number}
 use Rattle.rules.specs.Numbers.{naf_answer}
 use Rattle.rules.specs.Rows.{recode_refusal, naf_row, naf_row_of, naf_of}
 use Rattle.laws.specs.Conditions.{given-done, given-refused}
 use Rattle.bits.proofs.Refusals.{passed, all-taken}
-use Rattle.scalar.proofs.non_adjacent_form.Statement.{statement}
-use Rattle.scalar.proofs.non_adjacent_form.Tie as tie
+use Rattle.scalar.proofs.non_adjacent_form.Goals as goal
 
 -- refused, and done
 module _ (l : List ℕ) (w n : ℕ) where
@@ -20,18 +19,8 @@ module _ (l : List ℕ) (w n : ℕ) where
       let p = passed 2 l w (sym z ∙ e) in
       rw (← e, z, given-done (replicate 256 (pos 0)) (naf_row w (number 256 l))) (ap (λ (x : List ℤ). record { number = 0; row = x }) (r ∙ rw (p.1.0, all-taken l p.0)))
 
-recode-refusal-requires : tie.Need-recode-refusal-requires
-recode-refusal-requires c κs = search rules
+pub returns-then-number-ne0 : goal.returns-then-number-ne0
+returns-then-number-ne0 c = refused _ _ _ c.recode_refusal-number.ensures c.if-number-ne0.true
 
-returns : tie.Need-returns
-returns c = refused _ _ _ c.before.recode-refusal.ensures c.if1.true
-
-naf-row-requires : tie.Need-naf-row-requires
-naf-row-requires c κs = search rules
-
-returns-2 : tie.Need-returns-2
-returns-2 c = done _ _ _ c.before.before.recode-refusal.ensures c.before.if1.false _ c.naf-row.ensures
-
-pub non-adjacent-form-spec : {M : Type 1} → statement M
-non-adjacent-form-spec =
-    tie.close (tie.spec recode-refusal-requires returns naf-row-requires returns-2)
+pub returns : goal.returns
+returns c = done _ _ _ c.recode_refusal-number.ensures c.if-number-ne0.false _ c.naf_row-row.ensures
