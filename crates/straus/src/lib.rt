@@ -7,20 +7,20 @@ ghost use Rattle.rules.specs.Engines.{after, radix_straus, naf_straus};
 use rules::{Row, Sum, Window};
 
 pub(crate) mod naf;
-pub(crate) mod radix;
+pub(crate) mod radix_16;
 
 // Radix-16 Straus.
 pub fn multiscalar_mul(scalars: &[u8], points: &[u64], digits: &mut [i8], limbs: &mut [u64]) -> Sum
     ensures { after result digits.new limbs.new ≡ radix_straus scalars.now points.now digits.old limbs.old }
 {
-    let number = crate::radix::refusal(scalars, points, digits.len(), limbs.len());
+    let number = crate::radix_16::refusal(scalars, points, digits.len(), limbs.len());
     if number != 0 {
         return answer::refused_sum(number);
     }
     let m = lent::pairs(scalars, points);
     laying::rows(scalars, m, Row::Radix(4), &mut *digits);
     let made = laying::windows(points, m, Window::Successive8, &mut *limbs);
-    let w = crate::radix::walk(digits, limbs, m);
+    let w = crate::radix_16::walk(digits, limbs, m);
     room::clear_digits(&mut *digits, 64 * m);
     room::clear_limbs(&mut *limbs, 32 * m);
     answer::sum(

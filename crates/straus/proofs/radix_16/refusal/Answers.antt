@@ -6,7 +6,7 @@ use Rattle.rules.specs.Numbers.{most}
 use Rattle.rules.specs.Engines.{radix_straus_refusal}
 use Rattle.laws.specs.Conditions.{joined-here, joined-next}
 use Rattle.lent.proofs.Passed.{counts-few, room-is}
-use Rattle.straus.proofs.radix.refusal.Goals as goal
+use Rattle.straus.proofs.radix_16.refusal.Goals as goal
 
 pub returns-then-n-ne0 : goal.returns-then-n-ne0
 unfolding radix_straus_refusal

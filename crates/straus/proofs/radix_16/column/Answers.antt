@@ -1,6 +1,6 @@
 use native.Mathlib.Omega.{arith}
 use Rattle.straus.proofs.Walking.{passed_none, passed-more, passed-all}
-use Rattle.straus.proofs.radix.column.Goals as goal
+use Rattle.straus.proofs.radix_16.column.Goals as goal
 
 pub loop-i-init : goal.loop-i-init
 loop-i-init c = (omega arith, passed_none _ _ _ _, omega arith)

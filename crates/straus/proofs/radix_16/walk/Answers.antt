@@ -1,6 +1,6 @@
 use native.Mathlib.Omega.{arith}
 use Rattle.straus.proofs.Walking.{walking-none, walking-more, walking-end}
-use Rattle.straus.proofs.radix.walk.Goals as goal
+use Rattle.straus.proofs.radix_16.walk.Goals as goal
 
 pub loop-j-init : goal.loop-j-init
 loop-j-init c = walking-none _ _ _ c.identity-q.ensures
