@@ -11,7 +11,8 @@ use Rattle.rules.specs.Values.{number}
 use Rattle.rules.specs.Numbers.{row_bound, bad_digit, naf_answer, radix_answer}
 use Rattle.rules.specs.Rows.{IsNaf, IsRadix, naf_row, radix_row, width_off, rowless, recode_conditions, recode_refusal, naf_of, radix_of, read_naf, read_radix}
 use Rattle.laws.specs.Conditions.{or_split, given-done}
-use Rattle.laws.specs.RowsRule.{naf-obeys, naf-only, radix-obeys, radix-only}
+use Rattle.laws.specs.RowsRule.{naf-obeys, naf-only}
+use Rattle.laws.proofs.RadixRule.{radix-obeys, radix-only}
 use Rattle.reader.proofs.ReadBack as back
 use Rattle.arguments.proofs.Passing.{passed}
 

@@ -1,1 +1,3 @@
+#![tactic(auto)]
+
 // What proves the claims. No function.

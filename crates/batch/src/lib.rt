@@ -1,4 +1,6 @@
 // Prepared batches: a slot is 256 digits (NAF width 5) and 32 limbs (its window), in lent memory.
+#![tactic(auto)]
+
 ghost use Rattle.std.specs.Prelude.{◌≡◌, length};
 ghost use Rattle.rules.specs.declared.OptionalPoint.TheVariants.{Present};
 ghost use Rattle.rules.specs.Batch.{memory_of, after_edit, prepare, edge_refusal, set_slot, clear_slot, total_of};

@@ -1,4 +1,6 @@
 // The walk down the columns of NAF rows.
+#![tactic(auto)]
+
 ghost use Rattle.std.specs.Prelude.{◌≡◌, ◌+◌, ◌/◌, ◌^◌, ◌<◌, min, length};
 ghost use Rattle.rules.specs.Values.{element_at};
 ghost use Rattle.rules.specs.Rows.{digit};

@@ -1,1 +1,3 @@
+#![tactic(auto)]
+
 // What is claimed: the theorems of the demands. No function.

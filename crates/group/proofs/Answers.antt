@@ -5,7 +5,7 @@ use mathlib.Core.List.{List}
 use Prim.Native.Nat.{ℕ, ◌<◌}
 use native.Mathlib.Omega.{arith}
 use lib.ListN.{length}
-use lib.Dec.{leb, eqb}
+use lib.Dec.{leb}
 use borrow.Author.Tests.{ne_eqb, eqb-true, leb-false, not-false}
 use Rattle.rules.specs.declared.Element.{Element}
 use Rattle.rules.specs.declared.Value.{Value}

@@ -8,3 +8,4 @@ pub mod Stepping
 pub mod Steps
 pub mod BucketLoops
 pub mod Numerals
+pub mod RadixRule

@@ -12,7 +12,7 @@ use Rattle.rules.specs.Numbers.{row_bound}
 use Rattle.rules.specs.Rows.{digit, row_sum, IsNaf, IsRadix, used_places, above, naf_digits, naf_row, radix_digits, radix_row}
 use Rattle.laws.specs.DigitsSum.{plus, minus, same_parts, weigh, weigh-zeros, weigh-none, get_or-zeros, Level, level, sum_of, same_low}
 use Rattle.laws.specs.Digits.{wide, half-even, centred-above, above-le, above_zero, after}
-use Rattle.laws.specs.RadixRows.{radix-length, radix-range, radix-rest, radix-last-range, radix-16-last, radix-256-last}
+use Rattle.laws.specs.RadixRows.{radix-length}
 use Rattle.laws.specs.NafRows.{naf_digit, naf_next, by-parity, naf-length, naf-digit-odd, naf-small, naf-apart}
 
 -- ---- NAF
@@ -158,22 +158,6 @@ radix-sum w lo hi s =
     sum_of (2 ^ w) (l ++ replicate k (pos 0)) 64 s (radix-length w lo hi s)
     (rw (weigh-padded plus refl (2 ^ w) l k, weigh-padded minus refl (2 ^ w) l k) (radix-weighs w (used_places w - 1) s (omega arith)))
 
--- the row of a scalar below the bound obeys the rule
-pub radix-obeys : (w : ℕ) → 4 ≤ w → w ≤ 8 → (s : ℕ) → s < row_bound → IsRadix w (radix_row w s) s
-radix-obeys w lo hi s l =
-    record {
-      long = radix-length w lo hi s;
-      range = radix-range w lo hi s;
-      rest = radix-rest w lo hi s;
-      last-at-4 = λ e. rw e (radix-16-last s l);
-      last-at-5-to-7 = λ h _. radix-last-range w lo hi s h l;
-      last-at-8 = λ e. (byte e, rw e (radix-256-last s l));
-      sum_is = radix-sum w lo hi s;
-    }
-  where
-    byte : w ≡ 8 → mag (digit (radix_row w s) 31) < 128
-    byte e = rw e (radix-range 8 (omega arith) (omega arith) s 31 (unfold used_places in (omega arith)))
-
 near : (H : ℕ) (x y : ℤ) → mag x < H → mag y < H → plus x + minus y < 2 * H
 near H (pos a) (pos b) h k = omega arith
 near H (pos a) (negsuc b) h k = omega arith
@@ -215,6 +199,3 @@ radix-unique w lo hi a b s h k =
     (λ i q. h.range i (omega arith)) (λ i q. k.range i (omega arith))
     (λ i q. h.rest i (omega arith)) (λ i q. k.rest i (omega arith))
     (level (2 ^ w) a b 64 s h.long k.long h.sum_is k.sum_is)
-
-pub radix-only : (w : ℕ) → 4 ≤ w → w ≤ 8 → (row : List ℤ) (s : ℕ) → s < row_bound → IsRadix w row s → row ≡ radix_row w s
-radix-only w lo hi row s l h = radix-unique w lo hi row (radix_row w s) s h (radix-obeys w lo hi s l)

@@ -1,4 +1,6 @@
 // Laying rows and windows into lent room, each made by value and copied into its part.
+#![tactic(auto)]
+
 ghost use Rattle.std.specs.Prelude.{◌≡◌};
 ghost use Rattle.rules.specs.Lists.{put};
 ghost use Rattle.rules.specs.Helpers.{row_places, row_of, laid_rows, window_entries, made, made_window, laid_windows, filled, filled_slot};

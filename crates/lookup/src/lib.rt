@@ -1,4 +1,6 @@
 // Lookup in a window by a digit.
+#![tactic(auto)]
+
 ghost use Rattle.std.specs.Prelude.{◌≡◌, cond, ◌≤◌, pos};
 ghost use Rattle.std.specs.Int.Signed.{lt_z};
 ghost use Rattle.rules.specs.Group.{negated};

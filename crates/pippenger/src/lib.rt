@@ -1,4 +1,6 @@
 // Pippenger: each column's points put into buckets by their digits, the buckets summed by two running sums.
+#![tactic(auto)]
+
 ghost use Rattle.std.specs.Prelude.{◌≡◌};
 ghost use Rattle.rules.specs.Engines.{after, bucket_width, pippenger_refusal, pippenger};
 

@@ -18,7 +18,7 @@ use Rattle.rules.specs.Rows.{naf_row}
 use Rattle.rules.specs.Windows.{odd, limbs_flat}
 use Rattle.rules.specs.Lists.{scalar_count}
 use Rattle.rules.specs.Engines.{products, rows_digit, entry_sum, entry_at}
-use Rattle.rules.specs.Helpers.{Made, windowed_rows, walked, laid, laid_rows, laid_windows}
+use Rattle.rules.specs.Helpers.{Made, windowed_rows, walked, laid_rows, laid_windows}
 use Rattle.laws.specs.Parts.{flat-length}
 use Rattle.laws.proofs.Laid.{laid-front, laid-all}
 use Rattle.laws.specs.Weight.{weight-le}

@@ -1,4 +1,6 @@
 // Precomputed Straus: static tables of width 8, dynamic rows and windows of width 5.
+#![tactic(auto)]
+
 ghost use Rattle.std.specs.Prelude.{◌≡◌, length};
 ghost use Rattle.rules.specs.Engines.{after, after_new, new_tables, mixed};
 ghost use Rattle.precomputed_straus.specs.Fill.{Ready, mixed_walk};

@@ -1,4 +1,6 @@
 // The row readers: a row turned back into the 32 bytes of its scalar.
+#![tactic(auto)]
+
 ghost use Rattle.std.specs.Prelude.{◌≡◌, ◌+◌, ◌-◌, ◌*◌, ◌^◌};
 ghost use Rattle.rules.specs.Values.{value_of, element_of};
 ghost use Rattle.rules.specs.Numbers.{bytes_answer};

@@ -1,4 +1,6 @@
 // The non-adjacent form of a scalar: its row of digits.
+#![tactic(auto)]
+
 ghost use Rattle.std.specs.Prelude.{◌≡◌, ◌≤◌, take};
 ghost use Rattle.rules.specs.Values.{number};
 ghost use Rattle.rules.specs.Rows.{naf_of, naf_row, naf_row_of};

@@ -1,4 +1,6 @@
 // Straus: radix 16 on points without flags, and NAF of width 5 on optional points.
+#![tactic(auto)]
+
 ghost use Rattle.std.specs.Prelude.{◌≡◌};
 ghost use Rattle.rules.specs.Engines.{after, radix_straus, naf_straus};
 

@@ -1,4 +1,6 @@
 // Single base: a scalar times a point, radix 16.
+#![tactic(auto)]
+
 ghost use Rattle.std.specs.Prelude.{◌≡◌};
 ghost use Rattle.rules.specs.Engines.{single_refusal, single};
 ghost use Rattle.variable_base.specs.Walked.{walked_down};

@@ -1,4 +1,6 @@
 // Double base: aA + b * basepoint, rows of width 5 and 8.
+#![tactic(auto)]
+
 ghost use Rattle.std.specs.Prelude.{◌≡◌, length};
 ghost use Rattle.rules.specs.Engines.{double_refusal, start_place, double};
 

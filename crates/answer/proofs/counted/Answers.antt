@@ -1,4 +1,3 @@
-use Rattle.std.proofs.Common.{rules}
 use mathlib.Core.Path.{refl}
 use Rattle.rules.specs.Helpers.{counted_done}
 use Rattle.answer.proofs.counted.Goals as goal

@@ -1,4 +1,3 @@
-use Rattle.std.proofs.Common.{rules}
 use Rattle.answer.proofs.Zeros.{none}
 use Rattle.rules.specs.Numbers.{counted}
 use Rattle.answer.proofs.refused_counted.Goals as goal

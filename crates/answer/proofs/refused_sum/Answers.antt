@@ -1,4 +1,3 @@
-use Rattle.std.proofs.Common.{rules}
 use Rattle.answer.proofs.Zeros.{none}
 use Rattle.rules.specs.Numbers.{summed}
 use Rattle.rules.specs.Values.{places}

@@ -1,4 +1,3 @@
-use Rattle.std.proofs.Common.{rules}
 use Rattle.answer.proofs.Zeros.{none}
 use Rattle.rules.specs.Numbers.{valued}
 use Rattle.rules.specs.Values.{places}

@@ -1,4 +1,3 @@
-use Rattle.std.proofs.Common.{rules}
 use Rattle.rules.specs.Helpers.{sum_done}
 use Rattle.answer.proofs.sum.Goals as goal
 

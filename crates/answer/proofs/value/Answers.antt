@@ -1,4 +1,3 @@
-use Rattle.std.proofs.Common.{rules}
 use Rattle.rules.specs.Helpers.{value_done}
 use Rattle.answer.proofs.value.Goals as goal
 

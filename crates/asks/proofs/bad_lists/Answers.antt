@@ -1,13 +1,8 @@
-use Rattle.std.proofs.Common.{rules}
-use mathlib.Core.Bool.{false}
-use mathlib.Core.Path.{◌≡◌, sym, ◌∙◌}
-use Prim.Native.Nat.{◌≤◌, ◌-◌}
+use mathlib.Core.Path.{sym, ◌∙◌}
 use native.Mathlib.Omega.{arith}
-use lib.ListN.{length}
 use Rattle.rules.specs.Lists.{flag_at}
-use Rattle.rules.specs.Numbers.{any_below}
 use Rattle.laws.specs.Conditions.{any_none, any-more, any_at, any-end}
-use Rattle.asks.proofs.Points.{bad_at, bad-at, bad-by-flags}
+use Rattle.asks.proofs.Points.{bad-at, bad-by-flags}
 use Rattle.asks.proofs.bad_lists.Goals as goal
 
 pub loop-i-init : goal.loop-i-init
@@ -16,15 +11,11 @@ loop-i-init c = (omega arith, any_none _)
 pub returns-then-flags-i : goal.returns-then-flags-i
 unfolding flag_at
 returns-then-flags-i c =
-    
-    
     sym (sym (bad-by-flags _ _) ∙ any_at _ _ c.loop-i.i (omega arith) (bad-at _ _ _ c.optional_at.ensures c.point_over-over.ensures ∙ c.if-flags-i.true))
 
 pub loop-i-preserved : goal.loop-i-preserved
 unfolding flag_at
 loop-i-preserved c =
-    
-    
     (omega arith, any-more _ _ c.loop-i.invariant.1 (bad-at _ _ _ c.optional_at.ensures c.point_over-over.ensures ∙ c.if-flags-i.false))
 
 pub returns : goal.returns

@@ -1,5 +1,4 @@
 -- The tests in their order, each by what it answered.
-use Rattle.std.proofs.Common.{rules}
 use mathlib.Core.Path.{sym, ◌∙◌}
 use Rattle.laws.specs.Conditions.{first-here, first_next}
 use Rattle.asks.proofs.contents.Goals as goal
@@ -9,11 +8,8 @@ returns-then-any_big c = first-here _ _ _ (sym c.any_big.ensures ∙ c.if-any_bi
 
 pub returns-then-bad_lists : goal.returns-then-bad_lists
 returns-then-bad_lists c =
-    
     first_next _ _ _ _ (sym c.any_big.ensures ∙ c.if-any_big.false) (first-here _ _ _ (sym c.bad_lists.ensures ∙ c.if-bad_lists.true))
 
 pub returns : goal.returns
 returns c =
-    
-    
     first_next _ _ _ _ (sym c.any_big.ensures ∙ c.if-any_big.false) (first_next _ _ _ _ (sym c.bad_lists.ensures ∙ c.if-bad_lists.false) c.present.ensures)

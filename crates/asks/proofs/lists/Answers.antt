@@ -1,5 +1,4 @@
 -- The flags, then the rest.
-use Rattle.std.proofs.Common.{rules}
 use mathlib.Core.Bool.{or-true, or-false}
 use borrow.Author.Tests.{eq-eqb, ne_eqb}
 use Rattle.rules.specs.Numbers.{first}

@@ -1,5 +1,4 @@
 -- Absent past the flags and where the flag is 0, else the element at its place.
-use Rattle.std.proofs.Common.{rules}
 use Rattle.asks.proofs.Points.{flag-none, flag-past, flag-some}
 use Rattle.asks.proofs.optional_at.Goals as goal
 

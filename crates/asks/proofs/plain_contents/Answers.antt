@@ -1,5 +1,4 @@
 -- The two tests in their order, each by what it answered.
-use Rattle.std.proofs.Common.{rules}
 use mathlib.Core.Path.{sym, ◌∙◌}
 use Rattle.laws.specs.Conditions.{first-here, first_next, first-end}
 use Rattle.asks.proofs.plain_contents.Goals as goal
@@ -9,10 +8,8 @@ returns-then-any_big c = first-here _ _ _ (sym c.any_big.ensures ∙ c.if-any_bi
 
 pub returns-then-any_over : goal.returns-then-any_over
 returns-then-any_over c =
-    
     first_next _ _ _ _ (sym c.any_big.ensures ∙ c.if-any_big.false) (first-here _ _ _ (sym c.any_over.ensures ∙ c.if-any_over.true))
 
 pub returns : goal.returns
 returns c =
-    
     first_next _ _ _ _ (sym c.any_big.ensures ∙ c.if-any_big.false) (first_next _ _ _ _ (sym c.any_over.ensures ∙ c.if-any_over.false) first-end)

@@ -1,5 +1,4 @@
 -- The tests in their order, each by what it answered.
-use Rattle.std.proofs.Common.{rules}
 use mathlib.Core.Path.{sym, ap₂, ◌∙◌}
 use mathlib.Core.Bool.{◌||◌}
 use Rattle.rules.specs.Lists.{lists_too_many}
@@ -12,16 +11,10 @@ returns-then-not_whole c = first-here _ _ _ (ap₂ ◌||◌ (sym c.not_whole.ens
 pub returns-then-too_many : goal.returns-then-too_many
 unfolding lists_too_many
 returns-then-too_many c =
-    
-    
-    
     first_next _ _ _ _ (ap₂ ◌||◌ (sym c.not_whole.ensures) (sym c.not_whole-2.ensures) ∙ c.if-not_whole.false) (first-here _ _ _ (ap₂ ◌||◌ (sym c.too_many.ensures) (sym c.too_many-2.ensures) ∙ c.if-too_many.true))
 
 pub returns : goal.returns
 unfolding lists_too_many
 returns c =
-    
-    
-    
     first_next _ _ _ _ (ap₂ ◌||◌ (sym c.not_whole.ensures) (sym c.not_whole-2.ensures) ∙ c.if-not_whole.false)
     (first_next _ _ _ _ (ap₂ ◌||◌ (sym c.too_many.ensures) (sym c.too_many-2.ensures) ∙ c.if-too_many.false) first-end)

@@ -1,11 +1,6 @@
-use Rattle.std.proofs.Common.{rules}
-use mathlib.Core.Bool.{false}
-use mathlib.Core.Path.{◌≡◌, sym, ap, ◌∙◌}
-use Prim.Native.Nat.{◌≤◌, ◌-◌}
+use mathlib.Core.Path.{sym, ap, ◌∙◌}
 use native.Mathlib.Omega.{arith}
 use Rattle.rules.specs.Lists.{is_absent, absent_below}
-use Rattle.rules.specs.Numbers.{any_below}
-use Rattle.rules.specs.Values.{optional_at}
 use Rattle.laws.specs.Conditions.{any_none, any-more, any_at, any-end, first-here, first_next, first-end}
 use Rattle.asks.proofs.Points.{absent-is, present-is}
 use Rattle.asks.proofs.present.Goals as goal
@@ -16,11 +11,11 @@ loop-i-init c = (omega arith, any_none _)
 pub returns-in_default : goal.returns-in_default
 unfolding absent_below
 returns-in_default c =
-    first-here _ _ _ (any_at _ _ c.loop-i.i (omega arith) (ap is_absent (sym c.optional_at.ensures) ∙ absent-is c.enum_told-in_default-1.given.1))
+    first-here _ _ _ (any_at _ _ c.loop-i.i (omega arith) (ap is_absent (sym c.optional_at.ensures) ∙ absent-is c.in_default.is))
 
 pub loop-i-preserved : goal.loop-i-preserved
 loop-i-preserved c =
-    (omega arith, any-more _ _ c.loop-i.invariant.1 (ap is_absent (sym c.optional_at.ensures) ∙ present-is c.enum_told-1.given.1))
+    (omega arith, any-more _ _ c.loop-i.invariant.1 (ap is_absent (sym c.optional_at.ensures) ∙ present-is c.in-Present.is))
 
 pub returns : goal.returns
 unfolding absent_below

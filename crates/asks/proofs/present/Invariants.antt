@@ -1,8 +1,8 @@
 -- A search by taking each point apart: none of those passed is absent.
 use mathlib.Core.Bool.{false}
-use mathlib.Core.Path.{◌≡◌, sym, ap, ◌∙◌}
+use mathlib.Core.Path.{◌≡◌}
 use Prim.Native.Nat.{◌≤◌, ◌-◌}
-use Rattle.rules.specs.Lists.{is_absent, absent_below}
+use Rattle.rules.specs.Lists.{is_absent}
 use Rattle.rules.specs.Numbers.{any_below}
 use Rattle.rules.specs.Values.{optional_at}
 use Rattle.asks.proofs.present.Given as goal

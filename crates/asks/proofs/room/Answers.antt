@@ -1,5 +1,4 @@
 -- By the test.
-use Rattle.std.proofs.Common.{rules}
 use Rattle.rules.specs.Lists.{shorter}
 use Rattle.laws.specs.Conditions.{first-here, first_next, first-end}
 use Rattle.asks.proofs.room.Goals as goal

@@ -1,17 +1,13 @@
 -- The bits that wait, from one word, or from two.
 use Rattle.std.proofs.Common.{rules}
 use borrow.Author.Tests.{lt-ltb, le-ltb}
-use mathlib.Core.Path.{◌≡◌}
-use Prim.Native.Nat.{◌^◌}
 use native.Mathlib.Omega.{arith}
 use lib.ListN.{get_or}
-use lib.Pow.{pow_pos}
 use mir.Syntax.{w64}
 use mir.Val.{Fits}
-use Rattle.rules.specs.Values.{limb, Below}
 use Rattle.rules.specs.Helpers.{waiting_bits}
 use Rattle.words.proofs.LimbBits.{in-limb, in_two}
-use Rattle.bits.proofs.Waiting.{power-is, masked}
+use Rattle.bits.proofs.Waiting.{masked}
 use Rattle.bits.proofs.bit_buf.Goals as goal
 
 pub returns-then-pos-gt256 : goal.returns-then-pos-gt256

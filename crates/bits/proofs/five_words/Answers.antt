@@ -1,5 +1,4 @@
 -- The four limbs and a fifth of 0.
-use Rattle.std.proofs.Common.{rules}
 use mathlib.Core.Path.{ap}
 use mathlib.Core.List.{[], ◌∷◌, ◌++◌}
 use Rattle.rules.specs.declared.Element.{Element}

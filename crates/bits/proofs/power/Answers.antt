@@ -1,8 +1,7 @@
 -- A power of two that fits a word, or one that has no bit in it.
-use Rattle.std.proofs.Common.{rules}
 use mathlib.Core.Path.{◌≡◌, sym, ◌∙◌, ap}
 use Prim.Native.Nat.{ℕ, ◌-◌, ◌+◌, ◌%◌, ◌^◌}
-use native.Mathlib.Nat.{one-mul, mul-mod_left}
+use native.Mathlib.Nat.{mul-mod_left}
 use native.Mathlib.Omega.{arith}
 use lib.Pow.{pow-add}
 use Rattle.rules.specs.Values.{limb}

@@ -1,4 +1,3 @@
-use Rattle.std.proofs.Common.{rules}
 use mathlib.Core.Path.{◌≡◌, ap, ◌∙◌}
 use Prim.Native.Nat.{ℕ, ◌-◌, ◌/◌}
 use native.Mathlib.Omega.{arith}
@@ -13,12 +12,10 @@ none a e = omega arith
 pub returns-then-a-eq0 : goal.returns-then-a-eq0
 unfolding odd_entry
 returns-then-a-eq0 c =
-    
     let e : c.magnitude-a.result ≡ nat_abs c.args.d = c.magnitude-a.ensures ∙ ap nat_abs (M.back8 _ c.ranges.d) in
     none (nat_abs c.args.d) (omega arith)
 
 pub returns : goal.returns
 unfolding odd_entry
 returns c =
-    
     ap (λ (a : ℕ). (a - 1) / 2) (c.magnitude-a.ensures ∙ ap nat_abs (M.back8 _ c.ranges.d))

@@ -1,5 +1,4 @@
 -- Four limbs that lie within the list, else limb by limb.
-use Rattle.std.proofs.Common.{rules}
 use mathlib.Core.Path.{refl}
 use Rattle.rules.specs.Values.{element_at}
 use Rattle.flat.proofs.element_at.Goals as goal

@@ -1,5 +1,4 @@
 -- Each limb by itself, 0 past the end.
-use Rattle.std.proofs.Common.{rules}
 use mathlib.Core.Path.{◌∙◌, ap}
 use Prim.Native.Nat.{ℕ, ◌*◌}
 use native.Mathlib.Nat.{add-zero}

@@ -1,5 +1,4 @@
 -- Refused by its number, else the sum of two members.
-use Rattle.std.proofs.Common.{rules}
 use Rattle.rules.specs.Calls.{group_add}
 use Rattle.answer.proofs.Answers.{refused-value}
 use Rattle.group.proofs.Answers.{sum-answer}
@@ -11,5 +10,4 @@ returns-then-number-ne0 c = refused-value c.pair_refusal-number.ensures c.if-num
 
 pub returns : goal.returns
 returns c =
-    
     sum-answer _ _ c.pair_refusal-number.ensures c.if-number-ne0.false c.element_at.ensures c.element_at-2.ensures c.plus.ensures c.value.ensures

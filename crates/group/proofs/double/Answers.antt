@@ -1,5 +1,4 @@
 -- Refused by its number, else the double of a member.
-use Rattle.std.proofs.Common.{rules}
 use Rattle.rules.specs.Calls.{group_double}
 use Rattle.answer.proofs.Answers.{refused-value}
 use Rattle.group.proofs.Answers.{double-answer}
@@ -11,5 +10,4 @@ returns-then-number-ne0 c = refused-value c.point_refusal-number.ensures c.if-nu
 
 pub returns : goal.returns
 returns c =
-    
     double-answer _ c.point_refusal-number.ensures c.if-number-ne0.false c.element_at.ensures c.twice.ensures c.value.ensures

@@ -1,5 +1,4 @@
 -- Refused by its number, else the inverse of a member.
-use Rattle.std.proofs.Common.{rules}
 use Rattle.rules.specs.Calls.{group_negate}
 use Rattle.answer.proofs.Answers.{refused-value}
 use Rattle.group.proofs.Answers.{inverse-answer}
@@ -11,5 +10,4 @@ returns-then-number-ne0 c = refused-value c.point_refusal-number.ensures c.if-nu
 
 pub returns : goal.returns
 returns c =
-    
     inverse-answer _ c.point_refusal-number.ensures c.if-number-ne0.false c.element_at.ensures c.negative.ensures c.value.ensures

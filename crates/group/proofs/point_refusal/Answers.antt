@@ -1,5 +1,4 @@
 -- The first test that holds gives the number.
-use Rattle.std.proofs.Common.{rules}
 use mathlib.Core.Bool.{true, false}
 use Rattle.group.proofs.Answers.{tested, point-short, point-tested}
 use Rattle.group.proofs.point_refusal.Goals as goal

@@ -1,5 +1,4 @@
 -- Refused by its number, else the difference of two members.
-use Rattle.std.proofs.Common.{rules}
 use Rattle.rules.specs.Calls.{group_subtract}
 use Rattle.answer.proofs.Answers.{refused-value}
 use Rattle.group.proofs.Answers.{difference-answer}
@@ -11,5 +10,4 @@ returns-then-number-ne0 c = refused-value c.pair_refusal-number.ensures c.if-num
 
 pub returns : goal.returns
 returns c =
-    
     difference-answer _ _ c.pair_refusal-number.ensures c.if-number-ne0.false c.element_at.ensures c.element_at-2.ensures c.minus.ensures c.value.ensures

@@ -1,11 +1,7 @@
-use Rattle.std.proofs.Common.{rules}
-use mathlib.Core.Bool.{false}
-use mathlib.Core.Path.{◌≡◌, sym, ◌∙◌}
-use Prim.Native.Nat.{◌≤◌, ◌-◌}
+use mathlib.Core.Path.{sym, ◌∙◌}
 use native.Mathlib.Omega.{arith}
 use borrow.Author.Tests.{lt-ltb, le-ltb}
-use Rattle.rules.specs.Lists.{big_at, any_big}
-use Rattle.rules.specs.Numbers.{any_below}
+use Rattle.rules.specs.Lists.{any_big}
 use Rattle.laws.specs.Conditions.{any_none, any-more, any_at, any-end}
 use Rattle.lent.proofs.TopByte.{top-is}
 use Rattle.lent.proofs.any_big.Goals as goal

@@ -1,8 +1,8 @@
 -- A search by the top byte of each scalar: none of the scalars passed is at or above the bound.
 use mathlib.Core.Bool.{false}
-use mathlib.Core.Path.{◌≡◌, sym, ◌∙◌}
+use mathlib.Core.Path.{◌≡◌}
 use Prim.Native.Nat.{◌≤◌, ◌-◌}
-use Rattle.rules.specs.Lists.{big_at, any_big}
+use Rattle.rules.specs.Lists.{big_at}
 use Rattle.rules.specs.Numbers.{any_below}
 use Rattle.lent.proofs.any_big.Given as goal
 

@@ -1,14 +1,12 @@
-use Rattle.std.proofs.Common.{rules}
-use mathlib.Core.Bool.{Bool, false}
+use mathlib.Core.Bool.{Bool}
 use mathlib.Core.List.{List}
 use mathlib.Core.Path.{◌≡◌, sym, ap, ◌∙◌}
-use Prim.Native.Nat.{ℕ, ◌≤◌, ◌-◌}
+use Prim.Native.Nat.{ℕ}
 use native.Mathlib.Omega.{arith}
 use lib.Dec.{leb}
 use Rattle.rules.specs.declared.Element.{Element}
 use Rattle.rules.specs.Values.{value_of, element_at, point_at}
 use Rattle.rules.specs.Group.{L}
-use Rattle.rules.specs.Numbers.{any_below}
 use Rattle.rules.specs.Windows.{over, any_over}
 use Rattle.laws.specs.Conditions.{any_none, any-more, any_at, any-end}
 use Rattle.lent.proofs.any_over.Goals as goal

@@ -1,9 +1,9 @@
 -- A search: none of the elements passed is at or above L.
-use mathlib.Core.Bool.{Bool, false}
-use mathlib.Core.Path.{◌≡◌, sym, ap, ◌∙◌}
-use Prim.Native.Nat.{ℕ, ◌≤◌, ◌-◌}
+use mathlib.Core.Bool.{false}
+use mathlib.Core.Path.{◌≡◌}
+use Prim.Native.Nat.{◌≤◌, ◌-◌}
 use Rattle.rules.specs.Numbers.{any_below}
-use Rattle.rules.specs.Windows.{over, any_over}
+use Rattle.rules.specs.Windows.{over}
 use Rattle.lent.proofs.any_over.Given as goal
 
 abbrev pub invariant-loop-i : goal.invariant-loop-i

@@ -1,5 +1,4 @@
 -- The smaller of the two counts.
-use Rattle.std.proofs.Common.{rules}
 use Rattle.rules.specs.Lists.{pairs}
 use Rattle.lent.proofs.pairs.Goals as goal
 

@@ -1,7 +1,5 @@
 -- Four steps make the difference and its borrow.
-use Rattle.std.proofs.Common.{rules}
 use Rattle.limbs.proofs.Carries.{difference-is}
-use Rattle.std.proofs.Common.{rules}
 use Rattle.limbs.proofs.difference.Goals as goal
 
 pub returns : goal.returns

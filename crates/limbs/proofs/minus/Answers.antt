@@ -1,7 +1,5 @@
 -- The difference, and the modulus more where it borrows.
-use Rattle.std.proofs.Common.{rules}
 use Rattle.limbs.proofs.Modulo.{raised, unraised}
-use Rattle.std.proofs.Common.{rules}
 use Rattle.limbs.proofs.minus.Goals as goal
 
 pub returns-then-d : goal.returns-then-d

@@ -1,7 +1,5 @@
 -- An element reaches the modulus where their difference borrows nothing.
-use Rattle.std.proofs.Common.{rules}
 use Rattle.limbs.proofs.Modulo.{reaches}
-use Rattle.std.proofs.Common.{rules}
 use Rattle.limbs.proofs.over.Goals as goal
 
 pub returns : goal.returns

@@ -1,7 +1,5 @@
 -- The sum as it is where it is below the modulus, else less it.
-use Rattle.std.proofs.Common.{rules}
 use Rattle.limbs.proofs.Modulo.{kept, lessened}
-use Rattle.std.proofs.Common.{rules}
 use Rattle.limbs.proofs.plus.Goals as goal
 
 pub returns-then-d : goal.returns-then-d

@@ -1,7 +1,5 @@
 -- Four steps make the sum and its carry.
-use Rattle.std.proofs.Common.{rules}
 use Rattle.limbs.proofs.Carries.{sum_is}
-use Rattle.std.proofs.Common.{rules}
 use Rattle.limbs.proofs.sum.Goals as goal
 
 pub returns : goal.returns

@@ -1,5 +1,4 @@
 -- The limbs of 0, computed.
-use Rattle.std.proofs.Common.{rules}
 use mathlib.Core.Path.{refl}
 use Rattle.rules.specs.Values.{element_of}
 use Rattle.residue.proofs.identity.Goals as goal

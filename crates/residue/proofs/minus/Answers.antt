@@ -1,5 +1,4 @@
 -- The difference modulo L.
-use Rattle.std.proofs.Common.{rules}
 use mathlib.Core.Path.{ap, ◌∙◌}
 use Prim.Native.Nat.{ℕ}
 use Rattle.rules.specs.Group.{subtracted_modulo}

@@ -1,7 +1,7 @@
 -- After i turns the element has been doubled i times.
-use mathlib.Core.Path.{◌≡◌, refl, ap, sym, ◌∙◌}
-use Prim.Native.Nat.{ℕ, ◌≤◌, ◌-◌}
-use Rattle.rules.specs.Group.{added, elements}
+use mathlib.Core.Path.{◌≡◌}
+use Prim.Native.Nat.{◌≤◌, ◌-◌}
+use Rattle.rules.specs.Group.{elements}
 use Rattle.rules.specs.Loops.{doubled}
 use Rattle.residue.proofs.mul_by_pow_2.Given as goal
 

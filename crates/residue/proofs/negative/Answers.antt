@@ -1,5 +1,4 @@
 -- 0 less the element.
-use Rattle.std.proofs.Common.{rules}
 use mathlib.Core.Path.{ap, ◌∙◌}
 use Rattle.rules.specs.declared.Element.{Element}
 use Rattle.rules.specs.Group.{subtracted, negated_modulo}

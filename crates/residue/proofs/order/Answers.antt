@@ -1,5 +1,4 @@
 -- The limbs of L, computed.
-use Rattle.std.proofs.Common.{rules}
 use Rattle.rules.specs.Group.{L}
 use mathlib.Core.Path.{refl}
 use Rattle.rules.specs.Values.{element_of}

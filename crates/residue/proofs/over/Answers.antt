@@ -1,5 +1,4 @@
 -- An element is at or above L where it reaches it.
-use Rattle.std.proofs.Common.{rules}
 use mathlib.Core.Path.{ap, ◌∙◌}
 use Prim.Native.Nat.{ℕ}
 use lib.Dec.{leb}

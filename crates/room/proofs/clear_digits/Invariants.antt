@@ -1,5 +1,5 @@
 -- The digits are as they were, with the first i cleared.
-use mathlib.Core.Path.{◌≡◌, sym}
+use mathlib.Core.Path.{◌≡◌}
 use Prim.Native.Nat.{◌≤◌, ◌-◌}
 use lib.IntN.{pos}
 use Rattle.rules.specs.Numbers.{cleared}

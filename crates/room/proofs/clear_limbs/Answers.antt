@@ -1,10 +1,7 @@
-use Rattle.std.proofs.Common.{rules}
-use mathlib.Core.Path.{◌≡◌, sym}
-use Prim.Native.Nat.{◌≤◌, ◌-◌}
+use mathlib.Core.Path.{sym}
 use native.Mathlib.Omega.{arith}
-use Rattle.rules.specs.Numbers.{cleared}
 use Rattle.laws.proofs.Room.{cleared-none}
-use Rattle.room.proofs.Clearing.{clear-long, clear-inside, clear-turn, clear-end}
+use Rattle.room.proofs.Clearing.{clear-turn, clear-end}
 use Rattle.room.proofs.clear_limbs.Goals as goal
 
 pub loop-i-init : goal.loop-i-init

@@ -1,5 +1,5 @@
 -- The limbs are as they were, with the first i cleared.
-use mathlib.Core.Path.{◌≡◌, sym}
+use mathlib.Core.Path.{◌≡◌}
 use Prim.Native.Nat.{◌≤◌, ◌-◌}
 use Rattle.rules.specs.Numbers.{cleared}
 use Rattle.room.proofs.clear_limbs.Given as goal

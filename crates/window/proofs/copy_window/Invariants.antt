@@ -1,8 +1,8 @@
 -- The part holds the first i limbs of the window as one flat list.
 use mathlib.Core.List.{◌++◌}
-use mathlib.Core.Path.{◌≡◌, refl}
+use mathlib.Core.Path.{◌≡◌}
 use Prim.Native.Nat.{◌≤◌, ◌-◌}
-use lib.ListN.{length, take, drop}
+use lib.ListN.{take, drop}
 use Rattle.rules.specs.Lists.{joined}
 use Rattle.window.proofs.copy_window.Given as goal
 

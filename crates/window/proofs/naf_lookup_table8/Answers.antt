@@ -1,5 +1,4 @@
 -- Refused by its number, else the window made in zeros.
-use Rattle.std.proofs.Common.{rules}
 use mathlib.Core.Path.{refl, sym, ap, ◌∙◌}
 use Rattle.rules.specs.Windows.{naf_lookup_table8}
 use Rattle.rules.specs.Helpers.{Made}
@@ -9,7 +8,6 @@ use Rattle.window.proofs.naf_lookup_table8.Goals as goal
 pub returns-then-number-eq0 : goal.returns-then-number-eq0
 unfolding naf_lookup_table8
 returns-then-number-eq0 c =
-    
     done64 c.point_refusal-number.ensures _ c.if-number-eq0.true
     (ap (λ (m : Made). m.limbs) c.make_odd64.ensures
     ∙ odd-window _ (λ i. (c.type_inv.point i).fits) (sym c.point_refusal-number.ensures ∙ c.if-number-eq0.true) 64 _ refl c.element_at.ensures)

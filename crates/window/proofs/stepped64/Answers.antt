@@ -1,10 +1,8 @@
-use Rattle.std.proofs.Common.{rules}
 use mathlib.Core.Path.{refl}
-use Prim.Native.Nat.{◌-◌}
 use native.Mathlib.Omega.{arith}
 use Rattle.rules.specs.Values.{limbs_of}
 use Rattle.rules.specs.Group.{elements}
-use Rattle.laws.proofs.Stepping.{Built, built-first, built-more, built-all}
+use Rattle.laws.proofs.Stepping.{built-first, built-more}
 use Rattle.window.proofs.stepped64.Goals as goal
 
 pub loop-i-init : goal.loop-i-init

@@ -2,7 +2,7 @@
 use Prim.Native.Nat.{◌-◌}
 use Rattle.rules.specs.Values.{limbs_of}
 use Rattle.rules.specs.Group.{elements}
-use Rattle.laws.proofs.Stepping.{Built, built-first, built-more, built-all}
+use Rattle.laws.proofs.Stepping.{Built}
 use Rattle.window.proofs.stepped64.Given as goal
 
 abbrev pub invariant-loop-i : goal.invariant-loop-i

@@ -1,10 +1,8 @@
 -- Eight bits of a limb; past its eight bytes there are none.
-use Rattle.std.proofs.Common.{rules}
 use mathlib.Core.Path.{sym, ap}
-use Prim.Native.Nat.{ℕ, ◌*◌, ◌/◌, ◌%◌, ◌^◌}
+use Prim.Native.Nat.{ℕ, ◌*◌, ◌%◌, ◌^◌}
 use native.Mathlib.Nat.{div-eq_of_lt, lt_of_lt_of_le}
 use native.Mathlib.Omega.{arith}
-use lib.Bits.{and_mask}
 use lib.Pow.{pow_mono}
 use Rattle.words.proofs.byte_of.Goals as goal
 

@@ -1,11 +1,9 @@
-use Rattle.std.proofs.Common.{rules}
 use mathlib.Core.Path.{◌≡◌, sym, ap, ◌∙◌, subst}
 use mathlib.Core.List.{List}
-use Prim.Native.Nat.{ℕ, ◌-◌}
-use native.Mathlib.Omega.{arith}
+use Prim.Native.Nat.{ℕ}
 use Rattle.rules.specs.declared.Element.{Element}
 use Rattle.rules.specs.Values.{number, places, limb, limbs_of, value_of, element_at, point_at, Below}
-use Rattle.words.proofs.Turns.{read_below, Bytes, bytes-none, bytes-more, bytes-end}
+use Rattle.words.proofs.Turns.{read_below, bytes-more, bytes-end}
 use Rattle.words.proofs.LimbBits.{byte-in}
 use Rattle.words.proofs.bytes.Goals as goal
 
@@ -18,7 +16,6 @@ limbs-are l p q = p ∙ ap (λ (e : Element). limbs_of e) q
 
 pub loop-k-preserved : goal.loop-k-preserved
 loop-k-preserved c =
-    
     let b = subst (Below limb) (sym (limbs-are _ c.array-x.ensures c.element_at.ensures)) (read_below _ (λ i. (c.type_inv.list i).fits)) in
     bytes-more _ _ _ c.loop-k.invariant c.loop-k-test.true _ (c.byte_of.ensures ∙ byte-in _ b c.loop-k.k)
 

@@ -1,5 +1,4 @@
 -- Four limbs of eight bytes each.
-use Rattle.std.proofs.Common.{rules}
 use Rattle.words.proofs.Turns.{element-is}
 use Rattle.words.proofs.element.Goals as goal
 

@@ -1,8 +1,8 @@
 -- A limb, from its highest byte down. The loop's invariant: x is what the 8 - k bytes from place 8 * i + k on say.
-use Prim.Native.Nat.{ℕ, suc, ◌+◌, ◌-◌, ◌*◌, ◌^◌, ◌≤◌, ◌<◌}
-use mathlib.Core.Path.{◌≡◌, refl, ◌∙◌, ap}
-use lib.ListN.{get_or, take, drop}
-use Rattle.rules.specs.Values.{number, Below}
+use Prim.Native.Nat.{◌+◌, ◌-◌, ◌*◌, ◌≤◌}
+use mathlib.Core.Path.{◌≡◌}
+use lib.ListN.{take, drop}
+use Rattle.rules.specs.Values.{number}
 use Rattle.words.proofs.limb_of.Given as goal
 
 abbrev pub invariant-loop-k : goal.invariant-loop-k

@@ -1,10 +1,5 @@
 -- What a recoding refuses, test by test.
-use Rattle.std.proofs.Common.{rules}
 use borrow.Author.Tests.{ne_eqb, lt-ltb, le-ltb}
-use mathlib.Core.Path.{◌≡◌, ◌∙◌, sym}
-use mathlib.Core.Bool.{cond}
-use lib.Dec.{ltb}
-use lib.ListN.{get_or}
 use Rattle.rules.specs.Numbers.{first}
 use Rattle.rules.specs.Rows.{not_long, rowless, recode_refusal}
 use Rattle.bits.proofs.Refusals.{too-low, too-high, within, is-long, top-test}

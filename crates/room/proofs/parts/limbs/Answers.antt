@@ -1,8 +1,4 @@
 -- The part that is cut there.
-use Rattle.std.proofs.Common.{rules}
-use native.Mathlib.Omega.{arith}
-use mathlib.Core.Path.{sym}
-use lib.Seq.{length-take-le}
 use Rattle.room.proofs.Units.{units-cut}
 use Rattle.room.proofs.parts.limbs.Goals as goal
 

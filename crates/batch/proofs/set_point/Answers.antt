@@ -1,0 +1,35 @@
+-- Refused by 7, else what filling the slot's parts leaves.
+use mathlib.Core.Path.{sym, ◌∙◌}
+use native.Mathlib.Omega.{arith}
+use Rattle.rules.specs.Batch.{set_slot}
+use Rattle.limbs.proofs.Elements.{Ranged}
+use Rattle.batch.proofs.Batches.{refused-is, edge-inside, over-is, set_is}
+use Rattle.batch.proofs.set_point.Goals as goal
+
+pub returns-then-over : goal.returns-then-over
+unfolding set_slot
+returns-then-over c = refused-is (λ z. omega arith) _ _ _ _ _ _ (over-is _ _ _ _ c.requires _ (sym c.over.ensures ∙ c.if-over.true)) c.refused_counted.ensures
+
+pub overflow_mul-a : goal.overflow_mul-a
+overflow_mul-a c = omega (arith, (edge-inside _ _ _ _ c.requires).few)
+
+pub overflow_add-e : goal.overflow_add-e
+overflow_add-e c = omega (arith, (edge-inside _ _ _ _ c.requires).few)
+
+pub overflow_mul-b : goal.overflow_mul-b
+overflow_mul-b c = omega (arith, (edge-inside _ _ _ _ c.requires).few)
+
+pub overflow_add-f : goal.overflow_add-f
+overflow_add-f c = omega (arith, (edge-inside _ _ _ _ c.requires).few)
+
+pub slice_bounds-fill_slot-end : goal.slice_bounds-fill_slot-end
+slice_bounds-fill_slot-end c = (edge-inside _ _ _ _ c.requires).digits-fit
+
+pub slice_bounds-fill_slot-end-2 : goal.slice_bounds-fill_slot-end-2
+slice_bounds-fill_slot-end-2 c = (edge-inside _ _ _ _ c.requires).windows-fit
+
+pub returns : goal.returns
+returns c =
+    let g = c.well_formed in
+    let range : Ranged c.args.p = record { r0 = omega (arith, g); r1 = omega (arith, g); r2 = omega (arith, g); r3 = omega (arith, g) } in
+    set_is _ _ _ _ c.requires _ range (sym c.over.ensures ∙ c.if-over.false) _ _ _ _ c.fill_slot.ensures c.counted.ensures

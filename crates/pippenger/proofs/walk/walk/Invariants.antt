@@ -1,0 +1,12 @@
+-- At each place what the sum and the counts will come to is the walk's; but for the buckets the limbs are as they were.
+use Rattle.rules.specs.Values.{element_at}
+use Rattle.rules.specs.Group.{elements}
+use Rattle.laws.specs.BucketWalk.{Going}
+use Rattle.pippenger.proofs.walk.walk.Given as goal
+
+abbrev pub invariant-loop-j : goal.invariant-loop-j
+invariant-loop-j l =
+    Going elements 4 l.digits (element_at l.points) l.m l.w l.fn.buckets l.j l.buckets l.q l.additions l.doublings
+
+abbrev pub decreases-loop-j : goal.decreases-loop-j
+decreases-loop-j l = l.j
