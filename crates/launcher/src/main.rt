@@ -1,6 +1,7 @@
 // A small launcher to copy: a batch is prepared, edited, read back, and totalled after the last edit.
+#![tactic(auto)]
+
 use batch::{POINT_LIMBS, SCALAR_BYTES, SLOT_DIGITS, SLOT_LIMBS};
-use libc::STDOUT_FILENO;
 use room::parts;
 use rules::{Counted, OptionalPoint};
 
@@ -27,51 +28,51 @@ fn scalar(k: u8) -> [u8; SCALAR_BYTES] {
 }
 
 // Text goes to standard output as it is.
-fn text(bytes: &[u8]) {
-    io::write_all(STDOUT_FILENO, bytes);
+fn text(rt: &impl Print, bytes: &[u8]) {
+    let _ = rt.write_all(bytes);
 }
 
 // A long value is written as 64 hex digits, highest first.
-fn hex(value: [u64; POINT_LIMBS]) {
-    io::print_hex(STDOUT_FILENO, value[3], 16);
-    io::print_hex(STDOUT_FILENO, value[2], 16);
-    io::print_hex(STDOUT_FILENO, value[1], 16);
-    io::print_hex(STDOUT_FILENO, value[0], 16);
+fn hex(rt: &impl Print, value: [u64; POINT_LIMBS]) {
+    let [a, b, c, d] = value;
+    let _ = print!(rt; "{d:016x}{c:016x}{b:016x}{a:016x}");
 }
 
 // A value is written in decimal where it fits one limb, and in hex where it does not.
-fn write(value: [u64; POINT_LIMBS]) {
+fn write(rt: &impl Print, value: [u64; POINT_LIMBS]) {
     if (value[1] == 0) & (value[2] == 0) & (value[3] == 0) {
-        io::print_decimal(STDOUT_FILENO, value[0]);
+        let limb = value[0];
+        let _ = print!(rt; "{limb}");
     } else {
-        hex(value);
+        hex(rt, value);
     }
 }
 
 // A call is done where its number is 0; the number is written either way.
-fn done(call: &[u8], answer: Counted) -> bool {
-    text(call);
-    text(b": number ");
-    io::print_decimal(STDOUT_FILENO, answer.number as u64);
-    text(b"\n");
+fn done(rt: &impl Print, call: &[u8], answer: Counted) -> bool {
+    text(rt, call);
+    text(rt, b": number ");
+    let number = answer.number;
+    let _ = print!(rt; "{number}");
+    text(rt, b"\n");
     answer.number == 0
 }
 
 // The total is taken only where preparing and every edit were done.
-fn total(ready: bool, digits: &[i8], windows: &[u64]) {
+fn total(rt: &impl Print, ready: bool, digits: &[i8], windows: &[u64]) {
     if !ready {
-        text(b"  no total: a call was refused\n");
+        text(rt, b"  no total: a call was refused\n");
         return;
     }
     let sum = batch::total(digits, windows);
     if sum.number != 0 {
-        text(b"  no total: this memory is no batch\n");
+        text(rt, b"  no total: this memory is no batch\n");
         return;
     }
     let value = sum.value;
-    text(b"  total ");
-    write(value);
-    text(b"\n");
+    text(rt, b"  total ");
+    write(rt, value);
+    text(rt, b"\n");
 }
 
 // Digits are the same where they are as many and equal at each place.
@@ -105,23 +106,26 @@ fn same_limbs(a: &[u64], b: &[u64]) -> bool {
 }
 
 // A slot is read back: its row gives the scalar, and the first entry of its window is the point.
-fn read_back(digits: &[i8], windows: &[u64], slot: usize) {
+fn read_back(rt: &impl Print, digits: &[i8], windows: &[u64], slot: usize) {
     if digits.len() / SLOT_DIGITS <= slot {
-        text(b"  there is no such slot\n");
+        text(rt, b"  there is no such slot\n");
         return;
     }
     let from = SLOT_DIGITS * slot;
     let read = reader::read_naf(&digits[from..from + SLOT_DIGITS], 5);
     if read.number != 0 {
-        text(b"  no scalar has this row\n");
+        text(rt, b"  no scalar has this row\n");
         return;
     }
     let bytes = read.bytes;
-    text(b"  scalar ");
-    write(flat::array(words::element(&bytes)));
-    text(b", point ");
-    write(flat::array(flat::element_at(windows, SLOT_LIMBS / POINT_LIMBS * slot)));
-    text(b"\n");
+    text(rt, b"  scalar ");
+    write(rt, flat::array(words::element(&bytes)));
+    text(rt, b", point ");
+    write(
+        rt,
+        flat::array(flat::element_at(windows, SLOT_LIMBS / POINT_LIMBS * slot)),
+    );
+    text(rt, b"\n");
 }
 
 // The orders before the first whose point is missing can go, and they are counted.
@@ -137,7 +141,7 @@ fn waiting(flags: &[u8]) -> usize {
 }
 
 // How many orders go is known at run time only: the first n of each list and of the memory are lent.
-fn launch(scalars: &[u8], points: &[u64], flags: &[u8]) {
+fn launch(rt: &impl Print, scalars: &[u8], points: &[u64], flags: &[u8]) {
     let n = waiting(flags);
     let s = parts::bytes(scalars, SCALAR_BYTES, n);
     let p = parts::limbs(points, POINT_LIMBS, n);
@@ -147,45 +151,45 @@ fn launch(scalars: &[u8], points: &[u64], flags: &[u8]) {
     let d = parts::digit_room(&mut digits, SLOT_DIGITS, n);
     let w = parts::limb_room(&mut windows, SLOT_LIMBS, n);
     let prepared = batch::prepare(s, p, f, &mut *d, &mut *w);
-    let ready = done(b"prepare the orders that have their points", prepared);
-    total(ready, d, w);
+    let ready = done(rt, b"prepare the orders that have their points", prepared);
+    total(rt, ready, d, w);
 }
 
 // Three orders are prepared and edited, an edit is refused and mended, and in the end as many go as have their points.
-fn main() {
+fn main(rt: HostRuntime) {
     let points = [3u64, 0, 0, 0, 7, 0, 0, 0, 13, 0, 0, 0];
     let flags = [1u8; ORDERS];
     let mut digits = [0i8; ORDERS * SLOT_DIGITS];
     let mut windows = [0u64; ORDERS * SLOT_LIMBS];
     let prepared = batch::prepare(&scalars(), &points, &flags, &mut digits, &mut windows);
-    let ready = done(b"prepare three orders", prepared);
-    total(ready, &digits, &windows);
+    let ready = done(&rt, b"prepare three orders", prepared);
+    total(&rt, ready, &digits, &windows);
 
     let one = flat::element_at(&[1u64, 0, 0, 0], 0);
     let point = OptionalPoint::Present(one);
     let edited = batch::set(&mut digits, &mut windows, 1, &scalar(1), point);
-    let ready = ready & done(b"set slot 1 to scalar 1 and point 1", edited);
-    total(ready, &digits, &windows);
+    let ready = ready & done(&rt, b"set slot 1 to scalar 1 and point 1", edited);
+    total(&rt, ready, &digits, &windows);
 
     let cleared = batch::clear(&mut digits, &mut windows, 0);
-    let ready = ready & done(b"clear slot 0", cleared);
-    total(ready, &digits, &windows);
+    let ready = ready & done(&rt, b"clear slot 0", cleared);
+    total(&rt, ready, &digits, &windows);
 
     // A refused edit writes nothing, and there is no total until it is mended.
     let digits_before = digits;
     let windows_before = windows;
     let point = OptionalPoint::Present(residue::negative(one));
     let refused = batch::set(&mut digits, &mut windows, 3, &scalar(4), point);
-    let accepted = done(b"set slot 3, which the batch has not", refused);
-    total(ready & accepted, &digits, &windows);
+    let accepted = done(&rt, b"set slot 3, which the batch has not", refused);
+    total(&rt, ready & accepted, &digits, &windows);
     if same_digits(&digits_before, &digits) & same_limbs(&windows_before, &windows) {
-        text(b"  nothing changed\n");
+        text(&rt, b"  nothing changed\n");
     }
 
     let mended = batch::set(&mut digits, &mut windows, 2, &scalar(4), point);
-    let ready = ready & done(b"set slot 2 to scalar 4 and point L - 1", mended);
-    total(ready, &digits, &windows);
-    read_back(&digits, &windows, 2);
+    let ready = ready & done(&rt, b"set slot 2 to scalar 4 and point L - 1", mended);
+    total(&rt, ready, &digits, &windows);
+    read_back(&rt, &digits, &windows, 2);
 
-    launch(&scalars(), &points, &[1u8, 1, 0]);
+    launch(&rt, &scalars(), &points, &[1u8, 1, 0]);
 }

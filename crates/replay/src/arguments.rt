@@ -1,5 +1,5 @@
 // The arguments of a case, read one after the other: lists into their memory, everything else as numbers.
-use crate::input::State;
+use crate::input::{InputBuffer, State};
 use crate::{input, list, parts};
 
 // The numbers of a case by the kinds of its arguments, a list's being its length, and what follows.
@@ -49,7 +49,7 @@ pub(crate) fn kinds(code: u64) -> u64 {
 // A list into its part of memory; its length is in hand.
 fn one_list(
     kind: u64,
-    input: &mut [u8],
+    input: &mut InputBuffer<'_>,
     bytes: &mut [u8],
     limbs: &mut [u64],
     digits: &mut [i8],
@@ -69,7 +69,7 @@ fn one_list(
 }
 
 // A number, a digit, a point's flag, which is 0 or 1, or one of its limbs.
-fn one_number(kind: u64, input: &mut [u8], s: State) -> State {
+fn one_number(kind: u64, input: &mut InputBuffer<'_>, s: State) -> State {
     if kind == 9 {
         return input::next(input, s);
     }
@@ -83,7 +83,7 @@ fn one_number(kind: u64, input: &mut [u8], s: State) -> State {
 // An argument of this kind.
 fn argument(
     kind: u64,
-    input: &mut [u8],
+    input: &mut InputBuffer<'_>,
     bytes: &mut [u8],
     limbs: &mut [u64],
     digits: &mut [i8],
@@ -99,7 +99,7 @@ fn argument(
 // The arguments of these kinds; a case that has none is malformed.
 pub(crate) fn arguments(
     kinds: u64,
-    input: &mut [u8],
+    input: &mut InputBuffer<'_>,
     bytes: &mut [u8],
     limbs: &mut [u64],
     digits: &mut [i8],

@@ -4,6 +4,7 @@ mod elements;
 mod engines;
 mod rows;
 
+use crate::output::OutputBuffer;
 use crate::parts;
 use room::parts::{digit_room, limb_room};
 
@@ -15,7 +16,7 @@ pub(crate) fn answer(
     limbs: &[u64],
     digits: &mut [i8],
     windows: &mut [u64],
-    out: &mut [u8],
+    out: &mut OutputBuffer<'_>,
     at: usize,
 ) -> usize {
     let d = digit_room(digits, 1, n[6] as usize);
@@ -36,7 +37,7 @@ fn plain(
     bytes: &[u8],
     limbs: &[u64],
     digits: &[i8],
-    out: &mut [u8],
+    out: &mut OutputBuffer<'_>,
     at: usize,
 ) -> usize {
     let l = parts::limbs(limbs, 0, n[4]);

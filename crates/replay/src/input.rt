@@ -1,7 +1,19 @@
 // The cases on standard input: bytes through a buffer, and numbers.
-ghost use Rattle.std.specs.Prelude.{◌≤◌};
+ghost use Rattle.std.specs.Prelude.{◌≤◌, length};
 
-use libc::STDIN_FILENO;
+use std::io::{Read, Stdin};
+
+// Standard input, and the buffer that it fills.
+#[derive(Drop)]
+pub(crate) struct InputBuffer<'a> {
+    from: Stdin,
+    bytes: &'a mut [u8],
+}
+
+// Standard input with this buffer.
+pub(crate) fn read_by(from: Stdin, bytes: &mut [u8]) -> InputBuffer<'_> {
+    InputBuffer { from, bytes }
+}
 
 // Where reader and writer stand: the next byte of the input's buffer and how many are in it, the number read last, how many bytes wait in the output's buffer, and whether the case is malformed.
 #[derive(Clone, Copy)]
@@ -57,32 +69,50 @@ fn taken(s: State, byte: u8, at: usize, end: usize) -> State {
     r
 }
 
+// Bytes read until the buffer is full, the input ends or a read fails; how many they are.
+fn read_full(from: Stdin, bytes: &mut [u8]) -> usize
+    ensures { result ≤ length bytes.new }
+{
+    let mut from = from;
+    let mut done: usize = 0;
+    while done < bytes.len() {
+        let Ok(n) = from.read(&mut bytes[done..]) else {
+            break;
+        };
+        if n == 0 {
+            break;
+        }
+        done += n;
+    }
+    done
+}
+
 // The buffer filled again, and its first byte; malformed where the input has ended.
-fn refill(input: &mut [u8], s: State) -> State {
-    let end = io::read_full(STDIN_FILENO, input);
+fn refill(input: &mut InputBuffer<'_>, s: State) -> State {
+    let end = read_full(input.from, &mut *input.bytes);
     if end == 0 {
         return bad_if(s, true);
     }
-    taken(s, input[0], 1, end)
+    taken(s, input.bytes[0], 1, end)
 }
 
 // The next byte; a malformed case has none.
-pub(crate) fn next(input: &mut [u8], s: State) -> State {
+pub(crate) fn next(input: &mut InputBuffer<'_>, s: State) -> State {
     if s.bad {
         return s;
     }
     let at = s.at;
     let end = s.end;
     if at < end {
-        if at < input.len() {
-            return taken(s, input[at], at + 1, end);
+        if at < input.bytes.len() {
+            return taken(s, input.bytes[at], at + 1, end);
         }
     }
     refill(input, s)
 }
 
 // The next number of so many bits, lowest byte first.
-pub(crate) fn number(input: &mut [u8], bits: usize, s: State) -> State
+pub(crate) fn number(input: &mut InputBuffer<'_>, bits: usize, s: State) -> State
     requires { bits ≤ 64 }
 {
     let mut s = s;

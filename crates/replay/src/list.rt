@@ -1,7 +1,7 @@
 // The lists of a case, each in one of three modes, read into the front of lent memory.
 ghost use Rattle.std.specs.Prelude.{◌≤◌};
 
-use crate::input::{State, bad_if, next, number, with_number};
+use crate::input::{InputBuffer, State, bad_if, next, number, with_number};
 use crate::parts::DIGITS;
 
 // A list that is being read: how many elements it has, its mode, the element that is repeated, how many exceptions are to come and the place of the next, and what follows, with the element read last in hand.
@@ -30,7 +30,7 @@ fn unread(n: usize, mode: u64, s: State) -> Elements
 }
 
 // What stands before a list's elements, of which there are at most so many; no list has more than 525,056.
-fn head(input: &mut [u8], most: usize, s: State) -> Elements
+fn head(input: &mut InputBuffer<'_>, most: usize, s: State) -> Elements
     ensures { result.n ≤ 525056 }
 {
     let s = number(input, 32, s);
@@ -46,7 +46,7 @@ fn head(input: &mut [u8], most: usize, s: State) -> Elements
 }
 
 // The place of the next exception, where there is one.
-fn place(input: &mut [u8], e: Elements) -> Elements {
+fn place(input: &mut InputBuffer<'_>, e: Elements) -> Elements {
     if e.left == 0 {
         return e;
     }
@@ -58,7 +58,7 @@ fn place(input: &mut [u8], e: Elements) -> Elements {
 }
 
 // The element that is repeated, of so many bits, and in mode 2 how many exceptions there are and where the first is.
-fn begin(input: &mut [u8], bits: usize, e: Elements) -> Elements
+fn begin(input: &mut InputBuffer<'_>, bits: usize, e: Elements) -> Elements
     requires { bits ≤ 64 }
 {
     if e.mode == 0 {
@@ -78,7 +78,7 @@ fn begin(input: &mut [u8], bits: usize, e: Elements) -> Elements
 }
 
 // An element from the input, in hand.
-fn given(input: &mut [u8], bits: usize, e: Elements) -> Elements
+fn given(input: &mut InputBuffer<'_>, bits: usize, e: Elements) -> Elements
     requires { bits ≤ 64 }
 {
     let mut r = e;
@@ -87,7 +87,7 @@ fn given(input: &mut [u8], bits: usize, e: Elements) -> Elements
 }
 
 // An exception's element in hand, and the place of the next.
-fn exception(input: &mut [u8], bits: usize, e: Elements) -> Elements
+fn exception(input: &mut InputBuffer<'_>, bits: usize, e: Elements) -> Elements
     requires { bits ≤ 64 }
 {
     let s = number(input, bits, e.next);
@@ -101,7 +101,7 @@ fn exception(input: &mut [u8], bits: usize, e: Elements) -> Elements
 }
 
 // The element at place i in hand.
-fn element(input: &mut [u8], bits: usize, i: usize, e: Elements) -> Elements
+fn element(input: &mut InputBuffer<'_>, bits: usize, i: usize, e: Elements) -> Elements
     requires { bits ≤ 64 }
 {
     if e.mode == 0 {
@@ -131,7 +131,7 @@ pub(crate) fn digit_of(byte: u64) -> i8 {
 }
 
 // The byte at place i into its place.
-fn byte(input: &mut [u8], list: &mut [u8], i: usize, e: Elements) -> Elements {
+fn byte(input: &mut InputBuffer<'_>, list: &mut [u8], i: usize, e: Elements) -> Elements {
     let e = element(input, 8, i, e);
     if i < list.len() {
         list[i] = (e.next.number % 256) as u8;
@@ -141,7 +141,7 @@ fn byte(input: &mut [u8], list: &mut [u8], i: usize, e: Elements) -> Elements {
 }
 
 // The digit at place i likewise.
-fn digit(input: &mut [u8], list: &mut [i8], i: usize, e: Elements) -> Elements {
+fn digit(input: &mut InputBuffer<'_>, list: &mut [i8], i: usize, e: Elements) -> Elements {
     let e = element(input, 8, i, e);
     if i < list.len() {
         list[i] = digit_of(e.next.number);
@@ -151,7 +151,7 @@ fn digit(input: &mut [u8], list: &mut [i8], i: usize, e: Elements) -> Elements {
 }
 
 // The limb at place i likewise.
-fn limb(input: &mut [u8], list: &mut [u64], i: usize, e: Elements) -> Elements {
+fn limb(input: &mut InputBuffer<'_>, list: &mut [u64], i: usize, e: Elements) -> Elements {
     let e = element(input, 64, i, e);
     if i < list.len() {
         list[i] = e.next.number;
@@ -161,7 +161,7 @@ fn limb(input: &mut [u8], list: &mut [u64], i: usize, e: Elements) -> Elements {
 }
 
 // A list of bytes.
-pub(crate) fn bytes(input: &mut [u8], list: &mut [u8], s: State) -> State {
+pub(crate) fn bytes(input: &mut InputBuffer<'_>, list: &mut [u8], s: State) -> State {
     let h = head(input, list.len(), s);
     let n = h.n;
     let mut e = begin(input, 8, h);
@@ -174,7 +174,7 @@ pub(crate) fn bytes(input: &mut [u8], list: &mut [u8], s: State) -> State {
 }
 
 // A list of digits.
-pub(crate) fn digits(input: &mut [u8], list: &mut [i8], s: State) -> State {
+pub(crate) fn digits(input: &mut InputBuffer<'_>, list: &mut [i8], s: State) -> State {
     let h = head(input, list.len(), s);
     let n = h.n;
     let mut e = begin(input, 8, h);
@@ -187,7 +187,7 @@ pub(crate) fn digits(input: &mut [u8], list: &mut [i8], s: State) -> State {
 }
 
 // A list of limbs.
-pub(crate) fn limbs(input: &mut [u8], list: &mut [u64], s: State) -> State {
+pub(crate) fn limbs(input: &mut InputBuffer<'_>, list: &mut [u64], s: State) -> State {
     let h = head(input, list.len(), s);
     let n = h.n;
     let mut e = begin(input, 64, h);

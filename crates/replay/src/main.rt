@@ -1,4 +1,6 @@
 // Answers to recorded cases on standard input, one line a case (docs/REPLAY.md).
+#![tactic(auto)]
+
 mod arguments;
 mod calls;
 mod checksum;
@@ -10,9 +12,14 @@ mod parts;
 
 use arguments::{arguments, kinds};
 use calls::answer;
-use input::{State, next, start, with_put};
-use output::{flush, malformed};
+use input::{InputBuffer, State, next, read_by, start, with_put};
+use output::{OutputBuffer, flush, malformed, written_by};
 use parts::{BYTES, DIGITS, LIMBS};
+
+// Room for the bytes that are read or written at once.
+fn buffer() -> [u8; 65536] {
+    [0; 65536]
+}
 
 // Room for three lists of bytes or flags.
 fn bytes() -> [u8; 3 * BYTES] {
@@ -37,8 +44,8 @@ fn windows() -> [u64; LIMBS] {
 // A case whose code is in hand; case number k.
 fn case(
     k: u64,
-    input: &mut [u8],
-    out: &mut [u8],
+    input: &mut InputBuffer<'_>,
+    out: &mut OutputBuffer<'_>,
     bytes: &mut [u8],
     limbs: &mut [u64],
     digits: &mut [i8],
@@ -60,8 +67,8 @@ fn case(
 // The next case. The state is bad after the last: the input has ended, or case number k is malformed.
 fn one(
     k: u64,
-    input: &mut [u8],
-    out: &mut [u8],
+    input: &mut InputBuffer<'_>,
+    out: &mut OutputBuffer<'_>,
     bytes: &mut [u8],
     limbs: &mut [u64],
     digits: &mut [i8],
@@ -78,8 +85,8 @@ fn one(
 
 // Case after case. A proved loop has to end, and nothing says that the input does, so the cases are counted up to a number that no run reaches.
 fn replay(
-    input: &mut [u8],
-    out: &mut [u8],
+    input: &mut InputBuffer<'_>,
+    out: &mut OutputBuffer<'_>,
     bytes: &mut [u8],
     limbs: &mut [u64],
     digits: &mut [i8],
@@ -96,9 +103,11 @@ fn replay(
     }
 }
 
-fn main() {
-    let mut input = io::large_buffer();
-    let mut out = io::large_buffer();
+fn main(rt: HostRuntime) {
+    let mut read = buffer();
+    let mut written = buffer();
+    let mut input = read_by(rt.stdin(), &mut read);
+    let mut out = written_by(rt.stdout(), &mut written);
     let mut b = bytes();
     let mut l = limbs();
     let mut d = digits();

@@ -2,29 +2,43 @@
 ghost use Rattle.std.specs.Prelude.{◌<◌};
 
 use crate::parts;
-use libc::STDOUT_FILENO;
+use std::io::{Stdout, Write};
+
+// Standard output, and the buffer in which bytes wait for it.
+#[derive(Drop)]
+pub(crate) struct OutputBuffer<'a> {
+    to: Stdout,
+    bytes: &'a mut [u8],
+}
+
+// Standard output with this buffer.
+pub(crate) fn written_by(to: Stdout, bytes: &mut [u8]) -> OutputBuffer<'_> {
+    OutputBuffer { to, bytes }
+}
 
 // A byte behind those that wait, which are written where the buffer is full.
-pub(crate) fn put(out: &mut [u8], at: usize, byte: u8) -> usize {
-    if at < out.len() {
-        out[at] = byte;
+pub(crate) fn put(out: &mut OutputBuffer<'_>, at: usize, byte: u8) -> usize {
+    if at < out.bytes.len() {
+        out.bytes[at] = byte;
         return at + 1;
     }
-    io::write_all(STDOUT_FILENO, out);
-    if out.len() == 0 {
+    let mut to = out.to;
+    let _ = to.write_all(out.bytes);
+    if out.bytes.len() == 0 {
         return 0;
     }
-    out[0] = byte;
+    out.bytes[0] = byte;
     1
 }
 
 // What waits is written.
-pub(crate) fn flush(out: &mut [u8], at: usize) {
-    io::write_all(STDOUT_FILENO, parts::bytes(out, 0, at as u64));
+pub(crate) fn flush(out: &mut OutputBuffer<'_>, at: usize) {
+    let mut to = out.to;
+    let _ = to.write_all(parts::bytes(out.bytes, 0, at as u64));
 }
 
 // A text.
-pub(crate) fn text(out: &mut [u8], at: usize, t: &[u8]) -> usize {
+pub(crate) fn text(out: &mut OutputBuffer<'_>, at: usize, t: &[u8]) -> usize {
     let mut at = at;
     let mut i: usize = 0;
     while i < t.len() {
@@ -35,22 +49,22 @@ pub(crate) fn text(out: &mut [u8], at: usize, t: &[u8]) -> usize {
 }
 
 // A number, decimal.
-pub(crate) fn decimal(out: &mut [u8], at: usize, n: u64) -> usize {
-    let mut t = [0u8; 20];
-    let k = io::decimal(n, &mut t);
-    text(out, at, &t[..k])
+pub(crate) fn decimal(out: &mut OutputBuffer<'_>, at: usize, n: u64) -> usize {
+    let mut at = at;
+    if n > 9 {
+        at = decimal(out, at, n / 10);
+    }
+    put(out, at, 48 + (n % 10) as u8)
 }
 
 // A checksum, 16 hexadecimal digits behind a #.
-pub(crate) fn checksum(out: &mut [u8], at: usize, n: u64) -> usize {
+pub(crate) fn checksum(out: &mut OutputBuffer<'_>, at: usize, n: u64) -> usize {
     let at = put(out, at, 35);
-    let mut t = [0u8; 16];
-    let k = io::hex(n, 16, &mut t);
-    text(out, at, &t[..k])
+    hex_bytes(out, at, &n.to_be_bytes())
 }
 
 // The last line, where case number n is malformed.
-pub(crate) fn malformed(out: &mut [u8], at: usize, n: u64) {
+pub(crate) fn malformed(out: &mut OutputBuffer<'_>, at: usize, n: u64) {
     let at = text(out, at, b"malformed at case ");
     let at = decimal(out, at, n);
     let at = put(out, at, 10);
@@ -65,7 +79,7 @@ fn glyph(n: u8) -> u8
 }
 
 // A byte, two hexadecimal digits.
-fn hex_byte(out: &mut [u8], at: usize, byte: u8) -> usize {
+fn hex_byte(out: &mut OutputBuffer<'_>, at: usize, byte: u8) -> usize {
     let at = put(out, at, glyph(byte / 16));
     put(out, at, glyph(byte % 16))
 }
@@ -80,7 +94,7 @@ pub(crate) fn byte_of(d: i8) -> u8 {
 }
 
 // Bytes, in hexadecimal.
-pub(crate) fn hex_bytes(out: &mut [u8], at: usize, list: &[u8]) -> usize {
+pub(crate) fn hex_bytes(out: &mut OutputBuffer<'_>, at: usize, list: &[u8]) -> usize {
     let mut at = at;
     let mut i: usize = 0;
     while i < list.len() {
@@ -91,7 +105,7 @@ pub(crate) fn hex_bytes(out: &mut [u8], at: usize, list: &[u8]) -> usize {
 }
 
 // Digits likewise.
-pub(crate) fn hex_digits(out: &mut [u8], at: usize, list: &[i8]) -> usize {
+pub(crate) fn hex_digits(out: &mut OutputBuffer<'_>, at: usize, list: &[i8]) -> usize {
     let mut at = at;
     let mut i: usize = 0;
     while i < list.len() {
@@ -102,7 +116,7 @@ pub(crate) fn hex_digits(out: &mut [u8], at: usize, list: &[i8]) -> usize {
 }
 
 // A limb, its lowest byte first.
-fn hex_limb(out: &mut [u8], at: usize, limb: u64) -> usize {
+fn hex_limb(out: &mut OutputBuffer<'_>, at: usize, limb: u64) -> usize {
     let mut at = at;
     let mut k: usize = 0;
     while k < 8 {
@@ -113,7 +127,7 @@ fn hex_limb(out: &mut [u8], at: usize, limb: u64) -> usize {
 }
 
 // Limbs likewise.
-pub(crate) fn hex_limbs(out: &mut [u8], at: usize, list: &[u64]) -> usize {
+pub(crate) fn hex_limbs(out: &mut OutputBuffer<'_>, at: usize, list: &[u64]) -> usize {
     let mut at = at;
     let mut i: usize = 0;
     while i < list.len() {

@@ -1,4 +1,5 @@
 // Codes 20 and 23 to 25: static tables and prepared batches, built and edited.
+use crate::output::OutputBuffer;
 use crate::{line, parts};
 use rules::{Counted, Element, OptionalPoint};
 
@@ -59,7 +60,7 @@ pub(crate) fn answer(
     limbs: &[u64],
     digits: &mut [i8],
     windows: &mut [u64],
-    out: &mut [u8],
+    out: &mut OutputBuffer<'_>,
     at: usize,
 ) -> usize {
     let r = counts(code, n, bytes, limbs, digits, windows);

@@ -1,6 +1,7 @@
 // Codes 1 to 4 and 10 to 15: the group's own calls, windows and lookups.
 use crate::line;
 use crate::list::digit_of;
+use crate::output::OutputBuffer;
 use rules::{Value, Window8};
 
 // Codes 1 to 4.
@@ -18,7 +19,13 @@ fn of_group(code: u64, a: &[u64], b: &[u64]) -> Value {
 }
 
 // The line of codes 1 to 4.
-pub(crate) fn group(code: u64, a: &[u64], b: &[u64], out: &mut [u8], at: usize) -> usize {
+pub(crate) fn group(
+    code: u64,
+    a: &[u64],
+    b: &[u64],
+    out: &mut OutputBuffer<'_>,
+    at: usize,
+) -> usize {
     let r = of_group(code, a, b);
     let l = r.value;
     line::limbs(r.number, &l, out, at)
@@ -44,7 +51,13 @@ fn of_window(code: u64, l: &[u64], d: i8) -> Value {
 }
 
 // The line of codes 10 to 15.
-pub(crate) fn window(code: u64, list: &[u64], d: u64, out: &mut [u8], at: usize) -> usize {
+pub(crate) fn window(
+    code: u64,
+    list: &[u64],
+    d: u64,
+    out: &mut OutputBuffer<'_>,
+    at: usize,
+) -> usize {
     if code < 12 {
         let r = of_point(code, list);
         let l = r.limbs;

@@ -1,4 +1,5 @@
 // Codes 16 to 19, 21, 22 and 26: the engines, and the total of a batch.
+use crate::output::OutputBuffer;
 use crate::{line, parts};
 use rules::Sum;
 
@@ -68,7 +69,7 @@ pub(crate) fn answer(
     limbs: &[u64],
     digits: &mut [i8],
     windows: &mut [u64],
-    out: &mut [u8],
+    out: &mut OutputBuffer<'_>,
     at: usize,
 ) -> usize {
     let r = sum(code, n, bytes, limbs, digits, windows);

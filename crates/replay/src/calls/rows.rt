@@ -1,5 +1,6 @@
 // Codes 5 to 9: the recodings and the readers of rows.
 use crate::line;
+use crate::output::OutputBuffer;
 use rules::{RadixRow, ScalarBytes};
 
 // Codes 6 and 7.
@@ -19,7 +20,14 @@ fn read(code: u64, row: &[i8], w: usize) -> ScalarBytes {
 }
 
 // The line of codes 5 to 9.
-pub(crate) fn answer(code: u64, s: &[u8], row: &[i8], w: u64, out: &mut [u8], at: usize) -> usize {
+pub(crate) fn answer(
+    code: u64,
+    s: &[u8],
+    row: &[i8],
+    w: u64,
+    out: &mut OutputBuffer<'_>,
+    at: usize,
+) -> usize {
     let w = w as usize;
     if code == 5 {
         let r = scalar::non_adjacent_form(s, w);
