@@ -13,10 +13,11 @@ use Rattle.rules.specs.Rows.{digit, above, radix_row, used_places}
 use Rattle.laws.specs.Digits.{carry, carry-bit, window-le, after}
 use Rattle.laws.specs.RadixRows.{radix-length, radix-start, radix-state, radix-window, radix-window-last}
 use mir.Syntax.{w8}
-use mir.Val.{SFits, to_z, of_z}
+use mir.Val.{to_z, of_z}
 use mir.Facts.{to_z-of_z}
 use Rattle.radix.specs.Nibbles.{Small, Nibbles}
 use Rattle.laws.proofs.Numerals.{number_at, number-from}
+use Rattle.radix.proofs.Ints.{fits8}
 
 -- ---- a byte of the first 32, in the number that they say
 
@@ -106,9 +107,6 @@ centring-end N l row i h e =
     go j k (no q) =
         let f : j ≡ i = omega arith in
         rw f (h.here ∙ sym (radix-window-last 4 (omega arith) (omega arith) N i h.c h.bit h.state (omega arith) l))
-
-fits8 : (v : ℕ) → v < 128 → SFits w8 (pos v)
-fits8 v h = record { sfits = h }
 
 -- a small digit is kept in eight bits
 kept : (z : ℤ) → Small z → to_z w8 (of_z w8 z) ≡ z
