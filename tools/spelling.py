@@ -7,7 +7,8 @@ A name of specs/ or proofs/ that begins with a small letter and has a capital is
 .antt files, in the .rt files' clauses and imports, in must-fail edits, and in README.md and the pages of docs/ but for
 CHANGES.md, which has the names of its time. A dash that joins two names stays. Functions of src/, types, modules,
 strings, inputs and outputs are left. A lemma that would have its definition's name gets _lem. It stops, and writes
-nothing, where two names would fall together all the same.
+nothing, where a name that it respells would fall together with another all the same, and where nothing is left to
+respell.
 """
 import os
 import re
@@ -16,8 +17,8 @@ import sys
 WORD = re.compile(r"(?<![A-Za-z0-9_'])[a-z][A-Za-z0-9_']*")
 # library words that the kit's port spells anew, as they stand inside names of ours
 LIBRARY = {"getD": "get_or", "natAbs": "nat_abs"}
-# letters of a formula in a comment
-KEPT = {"aA"}
+# letters of formulas in comments
+KEPT = {"aA", "nP"}
 # lemmas whose names a definition takes
 LEMMAS = ["any_below", "digit_at", "digits_long", "same_row", "sum_done", "value_in"]
 DEFINED = re.compile(r"^\s*(?:(?:abbrev|unfoldable|pub)\s+)*([a-z][A-Za-z0-9_'-]*)\s*:(?=\s)", re.M)
@@ -51,6 +52,8 @@ def main():
     met = [w for w in table if table[w] in defined or list(table.values()).count(table[w]) > 1]
     if met:
         sys.exit(f"spelling: these would fall together with another name: {met}")
+    if not table:
+        sys.exit("spelling: every name is in today's spelling already")
     changed = 0
     for path, text in texts.items():
         here = table | ({w: w + "_lem" for w in LEMMAS} if path.endswith(".antt") else {})
