@@ -6,7 +6,8 @@ use Prim.Native.Nat.{ℕ, ◌*◌, ◌/◌, ◌%◌, ◌<◌, ◌≤◌}
 use native.Mathlib.Omega.{arith}
 use lib.ListN.{length}
 use borrow.Author.Tests.{leb-false, ltb-false, eqb-true, not-false}
-use Rattle.rules.specs.declared.OptionalPoint.{OptionalPoint}
+use Rattle.std.specs.Prelude.{Option}
+use Rattle.rules.specs.declared.Element.{Element}
 use Rattle.rules.specs.Numbers.{most}
 use Rattle.rules.specs.Rows.{not_long}
 use Rattle.rules.specs.Windows.{limbs_flat}
@@ -33,7 +34,7 @@ unfolding slot_window limbs_flat
 window-long p = flat-length 4 _ 8 (λ i q. unfold Rattle.rules.specs.Values.places in refl)
 
 -- what an accepted edit has passed
-pub record Accepted (digits windows slot : ℕ) (s : List ℕ) (p : OptionalPoint) : Type 0 where
+pub record Accepted (digits windows slot : ℕ) (s : List ℕ) (p : Option Element) : Type 0 where
   pub whole : digits ≡ 256 * (digits / 256)
   pub beside : windows ≡ 32 * (digits / 256)
   pub bytes : length s ≡ 32
@@ -43,7 +44,7 @@ pub record Accepted (digits windows slot : ℕ) (s : List ℕ) (p : OptionalPoin
   pub below : point_over p ≡ false
   pub present : is_absent p ≡ false
 
-pub accepted : (digits windows slot : ℕ) (s : List ℕ) (p : OptionalPoint) → set_refusal digits windows slot s p ≡ 0 → Accepted digits windows slot s p
+pub accepted : (digits windows slot : ℕ) (s : List ℕ) (p : Option Element) → set_refusal digits windows slot s p ≡ 0 → Accepted digits windows slot s p
 unfolding set_refusal memory_not_whole not_long not_in other_than beyond_most
 accepted digits windows slot s p e =
     let h = passed 0 (set_conditions digits windows slot s p) (omega arith) e in

@@ -8,8 +8,8 @@ use native.Mathlib.Omega.{arith}
 use lib.ListN.{length, get_or}
 use lib.Seq.{take_all}
 use lib.Dec.{eqb, leb}
-use Rattle.rules.specs.declared.OptionalPoint.{OptionalPoint}
-use Rattle.rules.specs.declared.OptionalPoint.TheVariants.{Present, Absent}
+use Rattle.std.specs.Prelude.{Option, Some, None}
+use Rattle.rules.specs.declared.Element.{Element}
 use Rattle.rules.specs.Values.{number, value_of, element_at, part, point_at, optional_at, scalar_at}
 use Rattle.rules.specs.Group.{L}
 use Rattle.rules.specs.Lists.{point_over, is_absent}
@@ -35,15 +35,15 @@ entry-part m i k h ws =
 pub point-part : (ps : List ℕ) (i : ℕ) → point_at ps i ≡ point_at (part 4 i ps) 0
 point-part ps i = let e : i ≡ 1 * i + 0 = omega arith in ap (point_at ps) e ∙ entry-part 1 i 0 (omega arith) ps
 
-pub limbs-long : (p : OptionalPoint) → length (limbs_in p) ≡ 4
+pub limbs-long : (p : Option Element) → length (limbs_in p) ≡ 4
 unfolding limbs_in
-limbs-long (Present e) = refl
-limbs-long Absent = refl
+limbs-long (Some e) = refl
+limbs-long None = refl
 
-pub limbs-value : (p : OptionalPoint) → is_absent p ≡ false → point_at (limbs_in p) 0 ≡ value_in p
+pub limbs-value : (p : Option Element) → is_absent p ≡ false → point_at (limbs_in p) 0 ≡ value_in p
 unfolding limbs_in value_in point_at element_at is_absent
-limbs-value (Present e) h = refl
-limbs-value Absent h = let z : ◌≡◌ {A = ℕ} 0 1 = cc in absurd (omega arith)
+limbs-value (Some e) h = refl
+limbs-value None h = let z : ◌≡◌ {A = ℕ} 0 1 = cc in absurd (omega arith)
 
 -- the one scalar of 32 bytes
 pub whole-scalar : (s : List ℕ) → length s ≡ 32 → number 256 s ≡ scalar_at s 0
@@ -55,7 +55,7 @@ pub over-by-flag : (ps fs : List ℕ) (i : ℕ) → point_over (optional_at ps f
 unfolding optional_at point_at
 over-by-flag ps fs i = go (eqb (get_or fs i 0) 0)
   where
-    go : (b : Bool) → point_over (cond b Absent (Present (element_at ps i))) ≡ cond b false (leb L (value_of (element_at ps i)))
+    go : (b : Bool) → point_over (cond b None (Some (element_at ps i))) ≡ cond b false (leb L (value_of (element_at ps i)))
     go true = unfold point_over in refl
     go false = unfold point_over in refl
 
@@ -63,6 +63,6 @@ pub absent-by-flag : (ps fs : List ℕ) (i : ℕ) → is_absent (optional_at ps 
 unfolding optional_at
 absent-by-flag ps fs i = go (eqb (get_or fs i 0) 0)
   where
-    go : (b : Bool) → is_absent (cond b Absent (Present (element_at ps i))) ≡ b
+    go : (b : Bool) → is_absent (cond b None (Some (element_at ps i))) ≡ b
     go true = unfold is_absent in refl
     go false = unfold is_absent in refl

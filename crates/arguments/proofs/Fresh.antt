@@ -8,8 +8,8 @@ use native.Mathlib.Omega.{arith}
 use lib.ListN.{length, get_or}
 use lib.IntN.{ℤ}
 use lib.Dec.{eqb, leb}
-use Rattle.rules.specs.declared.OptionalPoint.{OptionalPoint}
-use Rattle.rules.specs.declared.OptionalPoint.TheVariants.{Present, Absent}
+use Rattle.std.specs.Prelude.{Option, Some, None}
+use Rattle.rules.specs.declared.Element.{Element}
 use Rattle.rules.specs.Values.{number, part, flat, point_at, optional_at, scalar_at}
 use Rattle.rules.specs.Group.{L}
 use Rattle.rules.specs.Numbers.{scalar_bound, given, counted}
@@ -115,9 +115,9 @@ module _ (l : Pairs) (e : Edit) (r : Ready l) (z : number_by l e ≡ 0) where
       ∙ either (here i) (either (eqb (get_or l.flags i 0) 0) refl (new-below (point_of e) has.below has.present))
       (sym (over-by-flag l.points l.flags i) ∙ any_below_lem (λ j. point_over (optional_at l.points l.flags j)) _ i (right-both l r).1 (omega (arith, same_points))))
     where
-      new-below : (p : OptionalPoint) → point_over p ≡ false → is_absent p ≡ false → leb L (value_in p) ≡ false
-      new-below (Present x) h g = unfold point_over value_in in h
-      new-below Absent h g = let q : true ≡ false = unfold is_absent in g in let w : ◌≡◌ {A = ℕ} 0 1 = cc in absurd (omega arith)
+      new-below : (p : Option Element) → point_over p ≡ false → is_absent p ≡ false → leb L (value_in p) ≡ false
+      new-below (Some x) h g = unfold point_over value_in in h
+      new-below None h g = let q : true ≡ false = unfold is_absent in g in let w : ◌≡◌ {A = ℕ} 0 1 = cc in absurd (omega arith)
 
   there-then : absent_below then.points l.flags (point_count then.points) ≡ false
   unfolding absent_below

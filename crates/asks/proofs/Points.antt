@@ -8,9 +8,8 @@ use native.Mathlib.Omega.{arith}
 use lib.ListN.{length, get_or, get_or-eq_default}
 use lib.Dec.{leb, ltb}
 use borrow.Author.Tests.{eq-eqb, ne_eqb, lt-ltb, le-ltb}
+use Rattle.std.specs.Prelude.{Option, Some, None}
 use Rattle.rules.specs.declared.Element.{Element}
-use Rattle.rules.specs.declared.OptionalPoint.{OptionalPoint}
-use Rattle.rules.specs.declared.OptionalPoint.TheVariants.{Present, Absent}
 use Rattle.rules.specs.Values.{value_of, element_at, optional_at}
 use Rattle.rules.specs.Group.{L}
 use Rattle.rules.specs.Numbers.{any_below}
@@ -18,19 +17,19 @@ use Rattle.rules.specs.Lists.{point_count, flag_at, any_flag, point_over, any_po
 use Rattle.laws.specs.Conditions.{or-none, or_split, any_below_lem, any-absent}
 
 module _ (ps fs : List ℕ) (i : ℕ) where
-  pub flag-none : get_or fs i 0 ≡ 0 → Absent ≡ optional_at ps fs i
+  pub flag-none : get_or fs i 0 ≡ 0 → None ≡ optional_at ps fs i
   unfolding optional_at
   flag-none z = rw (eq-eqb (get_or fs i 0) 0 z)
 
-  pub flag-past : length fs ≤ i → Absent ≡ optional_at ps fs i
+  pub flag-past : length fs ≤ i → None ≡ optional_at ps fs i
   flag-past h = flag-none (get_or-eq_default fs 0 h)
 
-  pub flag-some : (get_or fs i 0 ≡ 0 → ⊥) → (x : Element) → x ≡ element_at ps i → Present x ≡ optional_at ps fs i
+  pub flag-some : (get_or fs i 0 ≡ 0 → ⊥) → (x : Element) → x ≡ element_at ps i → Some x ≡ optional_at ps fs i
   unfolding optional_at
-  flag-some z x e = rw (ne_eqb (get_or fs i 0) 0 z) (ap Present e)
+  flag-some z x e = rw (ne_eqb (get_or fs i 0) 0 z) (ap Some e)
 
 -- a point that is absent
-module _ {o : OptionalPoint} (e : o ≡ Absent) where
+module _ {o : Option Element} (e : o ≡ None) where
   pub absent-under : point_over o ≡ false
   unfolding point_over
   absent-under = rw e
@@ -40,7 +39,7 @@ module _ {o : OptionalPoint} (e : o ≡ Absent) where
   absent-is = rw e
 
 -- a point that is there
-module _ {o : OptionalPoint} {x : Element} (e : o ≡ Present x) where
+module _ {o : Option Element} {x : Element} (e : o ≡ Some x) where
   pub present-over : point_over o ≡ leb L (value_of x)
   unfolding point_over
   present-over = rw e
@@ -54,7 +53,7 @@ module _ (ps fs : List ℕ) where
   abbrev pub bad_at : ℕ → Bool
   bad_at i = flag_at fs i || (ltb i (point_count ps) && point_over (optional_at ps fs i))
 
-  pub bad-at : (i : ℕ) {o : OptionalPoint} {r : Bool} → o ≡ optional_at ps fs i → r ≡ point_over o → bad_at i ≡ (flag_at fs i || (ltb i (point_count ps) && r))
+  pub bad-at : (i : ℕ) {o : Option Element} {r : Bool} → o ≡ optional_at ps fs i → r ≡ point_over o → bad_at i ≡ (flag_at fs i || (ltb i (point_count ps) && r))
   bad-at i e q = ap (λ (b : Bool). flag_at fs i || (ltb i (point_count ps) && b)) (sym (q ∙ ap point_over e))
 
   -- past the flags every point is absent, so a search along them finds all

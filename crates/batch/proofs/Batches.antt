@@ -9,11 +9,10 @@ use lib.ListN.{length, get_or, take, drop}
 use lib.IntN.{ℤ}
 use lib.Dec.{leb, lit<, lit≤}
 use borrow.Author.Tests.{eqb-true, ltb-false, leb-false, not-false}
+use Rattle.std.specs.Prelude.{Option, Some, None}
 use Rattle.rules.specs.declared.Element.{Element}
 use Rattle.rules.specs.declared.Row.TheVariants.{Naf}
 use Rattle.rules.specs.declared.Window.TheVariants.{Odd8}
-use Rattle.rules.specs.declared.OptionalPoint.{OptionalPoint}
-use Rattle.rules.specs.declared.OptionalPoint.TheVariants.{Present, Absent}
 use Rattle.rules.specs.declared.Counts.{Counts}
 use Rattle.rules.specs.declared.Counted.{Counted}
 use Rattle.rules.specs.declared.Walk.{Walk}
@@ -140,11 +139,11 @@ refused-is h m x a b k r e er = ap₂ (λ (s : Counted) (t : Memory). record { r
 -- ---- edits
 
 -- 1, 2, 4 and 6 decide before the point is looked at
-pub edge-refused : (d w slot : ℕ) (s : List ℕ) (p : OptionalPoint) (n : ℕ) → n ≡ edge_refusal d w slot s → (n ≡ 0 → ⊥) → n ≡ set_refusal d w slot s p
+pub edge-refused : (d w slot : ℕ) (s : List ℕ) (p : Option Element) (n : ℕ) → n ≡ edge_refusal d w slot s → (n ≡ 0 → ⊥) → n ≡ set_refusal d w slot s p
 unfolding edge_refusal set_refusal
 edge-refused d w slot s p n e h = joined-here _ _ e h
 
-pub edge-passed : (d w slot : ℕ) (s : List ℕ) → edge_refusal d w slot s ≡ 0 → (p : OptionalPoint) → set_refusal d w slot s p ≡ first ((point_over p, 7) ∷ (is_absent p, 8) ∷ [])
+pub edge-passed : (d w slot : ℕ) (s : List ℕ) → edge_refusal d w slot s ≡ 0 → (p : Option Element) → set_refusal d w slot s p ≡ first ((point_over p, 7) ∷ (is_absent p, 8) ∷ [])
 unfolding edge_refusal set_refusal
 edge-passed d w slot s e p = sym (joined-next _ (edge_conditions d w slot s) (omega arith) refl e refl)
 
@@ -169,16 +168,16 @@ edge-inside d w slot s e =
     record { digits-fit = omega arith; windows-fit = omega arith; few = omega arith }
 
 module _ (d w slot : ℕ) (s : List ℕ) (z : edge_refusal d w slot s ≡ 0) where
-  pub absent-is : 8 ≡ set_refusal d w slot s Absent
-  absent-is = sym (edge-passed d w slot s z Absent ∙ (unfold first point_over is_absent in refl))
+  pub absent-is : 8 ≡ set_refusal d w slot s None
+  absent-is = sym (edge-passed d w slot s z None ∙ (unfold first point_over is_absent in refl))
 
-  pub over-is : (e : Element) → leb L (value_of e) ≡ true → 7 ≡ set_refusal d w slot s (Present e)
-  over-is e h = sym (edge-passed d w slot s z (Present e) ∙ (unfold first point_over is_absent in (rw h)))
+  pub over-is : (e : Element) → leb L (value_of e) ≡ true → 7 ≡ set_refusal d w slot s (Some e)
+  over-is e h = sym (edge-passed d w slot s z (Some e) ∙ (unfold first point_over is_absent in (rw h)))
 
 module _ (ds : List ℤ) (ws : List ℕ) (slot : ℕ) (s : List ℕ) (z : edge_refusal (length ds) (length ws) slot s ≡ 0) where
   module _ (e : Element) (range : Ranged e) (h : leb L (value_of e) ≡ false) where
-    taken : set_refusal (length ds) (length ws) slot s (Present e) ≡ 0
-    taken = edge-passed _ _ slot s z (Present e) ∙ (unfold first point_over is_absent in (rw h))
+    taken : set_refusal (length ds) (length ws) slot s (Some e) ≡ 0
+    taken = edge-passed _ _ slot s z (Some e) ∙ (unfold first point_over is_absent in (rw h))
 
     row : naf_row_of s 5 ≡ slot_row (scalar_at s 0)
     unfolding naf_row_of width_off slot_row scalar_at part
@@ -200,7 +199,7 @@ module _ (ds : List ℤ) (ws : List ℕ) (slot : ℕ) (s : List ℕ) (z : edge_r
     pub set_is : (c : Counts) (d : List ℤ) (w : List ℕ) (r : Counted)
         → ◌≡◌ {A = Filled} (record { counts = c; digits = d; windows = w }) (filled_slot s e (take (256 * slot + 256 - 256 * slot) (drop (256 * slot) ds)) (take (32 * slot + 32 - 32 * slot) (drop (32 * slot) ws)))
         → r ≡ counted_done c
-        → ◌≡◌ {A = AfterEdit} (after_edit r (take (256 * slot) ds ++ (d ++ drop (256 * slot + 256 - 256 * slot) (drop (256 * slot) ds))) (take (32 * slot) ws ++ (w ++ drop (32 * slot + 32 - 32 * slot) (drop (32 * slot) ws)))) (set_slot (memory_of ds ws) slot s (Present e))
+        → ◌≡◌ {A = AfterEdit} (after_edit r (take (256 * slot) ds ++ (d ++ drop (256 * slot + 256 - 256 * slot) (drop (256 * slot) ds))) (take (32 * slot) ws ++ (w ++ drop (32 * slot + 32 - 32 * slot) (drop (32 * slot) ws)))) (set_slot (memory_of ds ws) slot s (Some e))
     unfolding set_slot set_in filled_slot made_odd_in value_in
     set_is c d w r ef er =
         let i = edge-inside _ _ slot s z in

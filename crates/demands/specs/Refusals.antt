@@ -1,9 +1,8 @@
 -- Demand 1, for every call and any input: it answers n exactly when condition n holds and none lower does, 0 exactly when none holds;
 -- refused, its value and counts are zeros and every lent list is as at entry.
-use Rattle.std.specs.Prelude.{◌≡◌, refl, List, ℕ, length, replicate, ℤ}
+use Rattle.std.specs.Prelude.{◌≡◌, refl, List, ℕ, length, replicate, ℤ, Option, Some}
 use Rattle.std.proofs.Common.{arith}
-use Rattle.rules.specs.declared.OptionalPoint.{OptionalPoint}
-use Rattle.rules.specs.declared.OptionalPoint.TheVariants.{Present}
+use Rattle.rules.specs.declared.Element.{Element}
 use Rattle.rules.specs.Values.{element_of}
 use Rattle.rules.specs.Numbers.{bad_digit, condition}
 use Rattle.rules.specs.Rows.{recode_conditions, recode_refusal, naf_of, radix_of, read_naf_conditions, read_naf_refusal, read_naf, read_radix_conditions, read_radix_refusal, read_radix}
@@ -103,23 +102,23 @@ pub prepare-refuses : (ss ps fs : List ℕ) (m : Memory) → Refuses (with_memor
 unfolding prepare prepare_refusal
 prepare-refuses ss ps fs m = memory-refuses _ (omega arith) _ _ m _
 
-pub set-refuses : (m : Memory) (slot : ℕ) (s : List ℕ) (p : OptionalPoint) → Refuses (with_memory m) (set_conditions (length m.digits) (length m.windows) slot s p) (set_slot m slot s p)
+pub set-refuses : (m : Memory) (slot : ℕ) (s : List ℕ) (p : Option Element) → Refuses (with_memory m) (set_conditions (length m.digits) (length m.windows) slot s p) (set_slot m slot s p)
 unfolding set_slot set_refusal
 set-refuses m slot s p = memory-refuses _ (omega arith) _ _ m _
 
-pub clear-refuses : (m : Memory) (slot : ℕ) → Refuses (with_memory m) (set_conditions (length m.digits) (length m.windows) slot (replicate 32 0) (Present (element_of 0))) (clear_slot m slot)
+pub clear-refuses : (m : Memory) (slot : ℕ) → Refuses (with_memory m) (set_conditions (length m.digits) (length m.windows) slot (replicate 32 0) (Some (element_of 0))) (clear_slot m slot)
 unfolding clear_slot
-clear-refuses m slot = set-refuses m slot (replicate 32 0) (Present (element_of 0))
+clear-refuses m slot = set-refuses m slot (replicate 32 0) (Some (element_of 0))
 
 pub total-refuses : (m : Memory) → Refuses a_sum (total_conditions m) (total_of m)
 unfolding total_of total_refusal
 total-refuses m = sum-refuses _ (omega arith) _ _ _
 
 -- an edit never answers 10
-pub set-never-10 : (m : Memory) (slot : ℕ) (s : List ℕ) (p : OptionalPoint) → (set_slot m slot s p).result.number ≡ bad_digit → ⊥
+pub set-never-10 : (m : Memory) (slot : ℕ) (s : List ℕ) (p : Option Element) → (set_slot m slot s p).result.number ≡ bad_digit → ⊥
 unfolding condition
 set-never-10 m slot s p = never (set-refuses m slot s p) bad_digit (λ z. omega arith) refl
 
 pub clear-never-10 : (m : Memory) (slot : ℕ) → (clear_slot m slot).result.number ≡ bad_digit → ⊥
 unfolding clear_slot
-clear-never-10 m slot = set-never-10 m slot (replicate 32 0) (Present (element_of 0))
+clear-never-10 m slot = set-never-10 m slot (replicate 32 0) (Some (element_of 0))

@@ -8,7 +8,7 @@ use native.Mathlib.Omega.{arith}
 use lib.ListN.{length, get_or}
 use lib.Dec.{eqb}
 use borrow.Author.Tests.{eq-eqb, ne_eqb, eqb-true, ltb-false, leb-false, not-false}
-use Rattle.rules.specs.declared.OptionalPoint.TheVariants.{Present, Absent}
+use Rattle.std.specs.Prelude.{Some, None}
 use Rattle.rules.specs.Values.{value_of, element_at, point_at, optional_at, scalar_at}
 use Rattle.rules.specs.Group.{L}
 use Rattle.rules.specs.Numbers.{not_whole, too_many, most, scalar_bound, first}
@@ -62,11 +62,11 @@ unfolding any_over over
 under ps i e h = leb-false L (point_at ps i) (any_below_lem (over ps) (point_count ps) i e h)
 
 -- a point that is not absent is the element at its place
-pub there : (ps fs : List ℕ) (n i : ℕ) → absent_below ps fs n ≡ false → i < n → optional_at ps fs i ≡ Present (element_at ps i)
+pub there : (ps fs : List ℕ) (n i : ℕ) → absent_below ps fs n ≡ false → i < n → optional_at ps fs i ≡ Some (element_at ps i)
 unfolding absent_below optional_at
 there ps fs n i e h = go (eqb (get_or fs i 0) 0) (any_below_lem (λ j. is_absent (optional_at ps fs j)) n i e h)
   where
-    go : (b : Bool) → is_absent (cond b Absent (Present (element_at ps i))) ≡ false → cond b Absent (Present (element_at ps i)) ≡ Present (element_at ps i)
+    go : (b : Bool) → is_absent (cond b None (Some (element_at ps i))) ≡ false → cond b None (Some (element_at ps i)) ≡ Some (element_at ps i)
     go true q = let t : true ≡ false = unfold is_absent in q in let w : ◌≡◌ {A = ℕ} 0 1 = cc in absurd (omega arith)
     go false q = refl
 

@@ -3,8 +3,8 @@ use mathlib.Core.Path.{sym, ◌∙◌}
 use Rattle.asks.proofs.Points.{absent-under, present-over}
 use Rattle.asks.proofs.point_over.Goals as goal
 
-pub returns-in-Present : goal.returns-in-Present
-returns-in-Present c = c.over.ensures ∙ sym (present-over c.in-Present.is)
+pub returns-in-Some : goal.returns-in-Some
+returns-in-Some c = c.over.ensures ∙ sym (present-over c.in-Some.is)
 
-pub returns-in-Absent : goal.returns-in-Absent
-returns-in-Absent c = sym (absent-under c.in-Absent.is)
+pub returns-in-None : goal.returns-in-None
+returns-in-None c = sym (absent-under c.in-None.is)

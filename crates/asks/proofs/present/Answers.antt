@@ -15,7 +15,7 @@ returns-in_default c =
 
 pub loop-i-preserved : goal.loop-i-preserved
 loop-i-preserved c =
-    (omega arith, any-more _ _ c.loop-i.invariant.1 (ap is_absent (sym c.optional_at.ensures) ∙ present-is c.in-Present.is))
+    (omega arith, any-more _ _ c.loop-i.invariant.1 (ap is_absent (sym c.optional_at.ensures) ∙ present-is c.in-Some.is))
 
 pub returns : goal.returns
 unfolding absent_below
