@@ -2,18 +2,27 @@
 use mathlib.Core.Path.{◌≡◌, sym, ap, ◌∙◌}
 use Prim.Native.Nat.{ℕ}
 use borrow.Author.Tests.{ne_eqb}
+use Rattle.std.specs.Prelude.{Result, Err}
+use Rattle.rules.specs.declared.Refusal.{Refusal}
 use Rattle.rules.specs.declared.Element.{Element}
 use Rattle.rules.specs.declared.Counts.{Counts}
 use Rattle.rules.specs.declared.Value.{Value}
 use Rattle.rules.specs.declared.Counted.{Counted}
 use Rattle.rules.specs.declared.Sum.{Sum}
 use Rattle.rules.specs.Values.{element_of}
-use Rattle.rules.specs.Numbers.{given, valued, counted, summed}
+use Rattle.rules.specs.Numbers.{number_of, answered, given, valued, counted, summed}
 use Rattle.rules.specs.Helpers.{value_done, counted_done, sum_done}
+use Rattle.laws.specs.Refused.{refusal-not-0, refused-as}
 use Rattle.limbs.proofs.Elements.{limbs-of}
 
--- refused: the number n is the call's, and not 0
-module _ {n m : ℕ} (f : n ≡ m) (h : n ≡ 0 → ⊥) where
+-- refused: the question that the call asked has the answer, and so the number, of a refusal
+module _ {A : Type 0} {x : Result A Refusal} {k : Refusal} {n m : ℕ} (is : x ≡ Err k) (by : n ≡ number_of k) (asked : answered x ≡ m) where
+  f : n ≡ m
+  f = refused-as is by asked
+
+  h : n ≡ 0 → ⊥
+  h = refusal-not-0 k by
+
   pub refused-value : (v : ℕ) {r : Value} → r ≡ valued n 0 → r ≡ valued m v
   unfolding valued given
   refused-value v e = e ∙ rw (sym f, ne_eqb n 0 h)

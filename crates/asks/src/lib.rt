@@ -1,68 +1,68 @@
-// What several calls ask of lent lists: the parts that refusals are put together from, each answering its number.
+// What several calls ask of lent lists: the parts that refusals are put together from.
 #![tactic(auto)]
 
 ghost use Rattle.std.specs.Prelude.{◌≡◌, [], ◌∷◌};
 ghost use Rattle.rules.specs.Values.{optional_at};
-ghost use Rattle.rules.specs.Numbers.{absent_point, first};
+ghost use Rattle.rules.specs.Numbers.{absent_point, answered, first};
 ghost use Rattle.rules.specs.Lists.{point_over, bad_lists, absent_below};
 ghost use Rattle.rules.specs.Asks.{plain_lists, flagged_lists, enough_room, plain_contents, flagged_contents};
 
 use lent::{MOST, any_big, any_over, not_whole, too_many};
-use rules::OptionalPoint;
+use rules::{Element, Refusal};
 
 // 1 and 2 of scalars and of points without flags.
-pub fn plain_lists(scalars: &[u8], points: &[u64]) -> u8
-    ensures { result ≡ first (plain_lists scalars.now points.now) }
+pub fn plain_lists(scalars: &[u8], points: &[u64]) -> Result<(), Refusal>
+    ensures { answered result ≡ first (plain_lists scalars.now points.now) }
 {
     if not_whole(scalars.len(), 32) | not_whole(points.len(), 4) {
-        return 1;
+        return Err(Refusal::NotWhole);
     }
     if too_many(scalars.len(), 32, MOST) | too_many(points.len(), 4, MOST) {
-        return 2;
+        return Err(Refusal::TooMany);
     }
-    0
+    Ok(())
 }
 
 // 1 and 2 of scalars, points and flags.
-pub fn lists(scalars: &[u8], points: &[u64], flags: &[u8]) -> u8
-    ensures { result ≡ first (flagged_lists scalars.now points.now flags.now) }
+pub fn lists(scalars: &[u8], points: &[u64], flags: &[u8]) -> Result<(), Refusal>
+    ensures { answered result ≡ first (flagged_lists scalars.now points.now flags.now) }
 {
     if flags.len() != points.len() / 4 {
-        return 1;
+        return Err(Refusal::NotWhole);
     }
     plain_lists(scalars, points)
 }
 
 // 5 of working room: so many digits and limbs are needed, so many are lent.
-pub fn room(needed_digits: usize, digits: usize, needed_limbs: usize, limbs: usize) -> u8
-    ensures { result ≡ first (enough_room needed_digits digits needed_limbs limbs) }
+pub fn room(needed_digits: usize, digits: usize, needed_limbs: usize, limbs: usize) -> Result<(), Refusal>
+    ensures { answered result ≡ first (enough_room needed_digits digits needed_limbs limbs) }
 {
     if (digits < needed_digits) | (limbs < needed_limbs) {
-        return 5;
+        return Err(Refusal::BadRoom);
     }
-    0
+    Ok(())
 }
 
 // Point i by its flag: absent where that is 0, and past the flags' end.
-fn optional_at(points: &[u64], flags: &[u8], i: usize) -> OptionalPoint
+fn optional_at(points: &[u64], flags: &[u8], i: usize) -> Option<Element>
     ensures { result ≡ optional_at points.now flags.now i }
 {
     if flags.len() <= i {
-        return OptionalPoint::Absent;
+        return None;
     }
     if flags[i] == 0 {
-        return OptionalPoint::Absent;
+        return None;
     }
-    OptionalPoint::Present(flat::element_at(points, i))
+    Some(flat::element_at(points, i))
 }
 
 // 7: whether a point is present and at or above L.
-fn point_over(point: OptionalPoint) -> bool
+fn point_over(point: Option<Element>) -> bool
     ensures { result ≡ point_over point }
 {
     match point {
-        OptionalPoint::Present(e) => residue::over(e),
-        OptionalPoint::Absent => false,
+        Some(e) => residue::over(e),
+        None => false,
     }
 }
 
@@ -83,41 +83,41 @@ fn bad_lists(points: &[u64], flags: &[u8]) -> bool
 }
 
 // 8: each of the first n points is taken apart.
-fn present(points: &[u64], flags: &[u8], n: usize) -> u8
-    ensures { result ≡ first ((absent_below points.now flags.now n, absent_point) ∷ []) }
+fn present(points: &[u64], flags: &[u8], n: usize) -> Result<(), Refusal>
+    ensures { answered result ≡ first ((absent_below points.now flags.now n, absent_point) ∷ []) }
 {
     let mut i: usize = 0;
     while i < n {
-        let OptionalPoint::Present(_) = optional_at(points, flags, i) else {
-            return 8;
+        let Some(_) = optional_at(points, flags, i) else {
+            return Err(Refusal::AbsentPoint);
         };
         i += 1;
     }
-    0
+    Ok(())
 }
 
 // 6 and 7 of scalars and of points without flags.
-pub fn plain_contents(scalars: &[u8], points: &[u64]) -> u8
-    ensures { result ≡ first (plain_contents scalars.now points.now) }
+pub fn plain_contents(scalars: &[u8], points: &[u64]) -> Result<(), Refusal>
+    ensures { answered result ≡ first (plain_contents scalars.now points.now) }
 {
     if any_big(scalars) {
-        return 6;
+        return Err(Refusal::BigScalar);
     }
     if any_over(points) {
-        return 7;
+        return Err(Refusal::BadPoint);
     }
-    0
+    Ok(())
 }
 
 // 6, 7 and 8 of scalars, points and flags, where the first n points are needed.
-pub fn contents(scalars: &[u8], points: &[u64], flags: &[u8], n: usize) -> u8
-    ensures { result ≡ first (flagged_contents scalars.now points.now flags.now n) }
+pub fn contents(scalars: &[u8], points: &[u64], flags: &[u8], n: usize) -> Result<(), Refusal>
+    ensures { answered result ≡ first (flagged_contents scalars.now points.now flags.now n) }
 {
     if any_big(scalars) {
-        return 6;
+        return Err(Refusal::BigScalar);
     }
     if bad_lists(points, flags) {
-        return 7;
+        return Err(Refusal::BadPoint);
     }
     present(points, flags, n)
 }

@@ -19,6 +19,7 @@ pub mod NafRows
 pub mod RowsRule
 pub mod RowsRead
 pub mod Conditions
+pub mod Refused
 pub mod Answers
 pub mod Parts
 pub mod Running
