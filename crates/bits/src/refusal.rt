@@ -1,25 +1,28 @@
 // What a recoding of a scalar refuses.
 ghost use Rattle.std.specs.Prelude.{◌≡◌};
+ghost use Rattle.rules.specs.Numbers.{answered};
 ghost use Rattle.rules.specs.Rows.{recode_refusal};
+
+use rules::Refusal;
 
 // The highest byte of 2^255 - 1, the largest number that has a row.
 const TOP: u8 = 127;
 
 // What a recoding of widths low to 8 answers.
-pub fn recode_refusal(scalar: &[u8], low: usize, w: usize) -> u8
-    ensures { result ≡ recode_refusal low scalar.now w }
+pub fn recode_refusal(scalar: &[u8], low: usize, w: usize) -> Result<(), Refusal>
+    ensures { answered result ≡ recode_refusal low scalar.now w }
 {
     if scalar.len() != 32 {
-        return 1;
+        return Err(Refusal::NotWhole);
     }
     if w < low {
-        return 3;
+        return Err(Refusal::BadWidth);
     }
     if 8 < w {
-        return 3;
+        return Err(Refusal::BadWidth);
     }
     if TOP < scalar[31] {
-        return 6;
+        return Err(Refusal::BigScalar);
     }
-    0
+    Ok(())
 }
