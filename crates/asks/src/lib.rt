@@ -3,7 +3,7 @@
 
 ghost use Rattle.std.specs.Prelude.{◌≡◌, [], ◌∷◌};
 ghost use Rattle.rules.specs.Values.{optional_at};
-ghost use Rattle.rules.specs.Numbers.{absent_point, answered, first};
+ghost use Rattle.rules.specs.Numbers.{absent_point, as_number, first};
 ghost use Rattle.rules.specs.Lists.{point_over, bad_lists, absent_below};
 ghost use Rattle.rules.specs.Asks.{plain_lists, flagged_lists, enough_room, plain_contents, flagged_contents};
 
@@ -12,7 +12,7 @@ use rules::{Element, Refusal};
 
 // 1 and 2 of scalars and of points without flags.
 pub fn plain_lists(scalars: &[u8], points: &[u64]) -> Result<(), Refusal>
-    ensures { answered result ≡ first (plain_lists scalars.now points.now) }
+    ensures { as_number result ≡ first (plain_lists scalars.now points.now) }
 {
     if not_whole(scalars.len(), 32) | not_whole(points.len(), 4) {
         return Err(Refusal::NotWhole);
@@ -25,7 +25,7 @@ pub fn plain_lists(scalars: &[u8], points: &[u64]) -> Result<(), Refusal>
 
 // 1 and 2 of scalars, points and flags.
 pub fn lists(scalars: &[u8], points: &[u64], flags: &[u8]) -> Result<(), Refusal>
-    ensures { answered result ≡ first (flagged_lists scalars.now points.now flags.now) }
+    ensures { as_number result ≡ first (flagged_lists scalars.now points.now flags.now) }
 {
     if flags.len() != points.len() / 4 {
         return Err(Refusal::NotWhole);
@@ -35,7 +35,7 @@ pub fn lists(scalars: &[u8], points: &[u64], flags: &[u8]) -> Result<(), Refusal
 
 // 5 of working room: so many digits and limbs are needed, so many are lent.
 pub fn room(needed_digits: usize, digits: usize, needed_limbs: usize, limbs: usize) -> Result<(), Refusal>
-    ensures { answered result ≡ first (enough_room needed_digits digits needed_limbs limbs) }
+    ensures { as_number result ≡ first (enough_room needed_digits digits needed_limbs limbs) }
 {
     if (digits < needed_digits) | (limbs < needed_limbs) {
         return Err(Refusal::BadRoom);
@@ -84,7 +84,7 @@ fn bad_lists(points: &[u64], flags: &[u8]) -> bool
 
 // 8: each of the first n points is taken apart.
 fn present(points: &[u64], flags: &[u8], n: usize) -> Result<(), Refusal>
-    ensures { answered result ≡ first ((absent_below points.now flags.now n, absent_point) ∷ []) }
+    ensures { as_number result ≡ first ((absent_below points.now flags.now n, absent_point) ∷ []) }
 {
     let mut i: usize = 0;
     while i < n {
@@ -98,7 +98,7 @@ fn present(points: &[u64], flags: &[u8], n: usize) -> Result<(), Refusal>
 
 // 6 and 7 of scalars and of points without flags.
 pub fn plain_contents(scalars: &[u8], points: &[u64]) -> Result<(), Refusal>
-    ensures { answered result ≡ first (plain_contents scalars.now points.now) }
+    ensures { as_number result ≡ first (plain_contents scalars.now points.now) }
 {
     if any_big(scalars) {
         return Err(Refusal::BigScalar);
@@ -111,7 +111,7 @@ pub fn plain_contents(scalars: &[u8], points: &[u64]) -> Result<(), Refusal>
 
 // 6, 7 and 8 of scalars, points and flags, where the first n points are needed.
 pub fn contents(scalars: &[u8], points: &[u64], flags: &[u8], n: usize) -> Result<(), Refusal>
-    ensures { answered result ≡ first (flagged_contents scalars.now points.now flags.now n) }
+    ensures { as_number result ≡ first (flagged_contents scalars.now points.now flags.now n) }
 {
     if any_big(scalars) {
         return Err(Refusal::BigScalar);

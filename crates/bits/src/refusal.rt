@@ -1,6 +1,6 @@
 // What a recoding of a scalar refuses.
 ghost use Rattle.std.specs.Prelude.{◌≡◌};
-ghost use Rattle.rules.specs.Numbers.{answered};
+ghost use Rattle.rules.specs.Numbers.{as_number};
 ghost use Rattle.rules.specs.Rows.{recode_refusal};
 
 use rules::Refusal;
@@ -10,7 +10,7 @@ const TOP: u8 = 127;
 
 // What a recoding of widths low to 8 answers.
 pub fn recode_refusal(scalar: &[u8], low: usize, w: usize) -> Result<(), Refusal>
-    ensures { answered result ≡ recode_refusal low scalar.now w }
+    ensures { as_number result ≡ recode_refusal low scalar.now w }
 {
     if scalar.len() != 32 {
         return Err(Refusal::NotWhole);

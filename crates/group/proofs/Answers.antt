@@ -7,15 +7,15 @@ use native.Mathlib.Omega.{arith}
 use lib.ListN.{length}
 use lib.Dec.{leb}
 use borrow.Author.Tests.{ne_eqb, eqb-true, leb-false, not-false}
+use Rattle.std.specs.Prelude.{Ok}
 use Rattle.rules.specs.declared.Element.{Element}
-use Rattle.rules.specs.declared.Value.{Value}
 use Rattle.rules.specs.Values.{value_of, element_at, point_at}
 use Rattle.rules.specs.Group.{L, added, subtracted, negated}
 use Rattle.rules.specs.Numbers.{any_below, first}
 use Rattle.rules.specs.Rows.{not_long}
 use Rattle.rules.specs.Windows.{over, any_over, point_refusal}
 use Rattle.rules.specs.Calls.{pair_refusal, group_add, group_subtract, group_negate, group_double}
-use Rattle.rules.specs.Helpers.{value_done}
+use Rattle.rules.specs.Results.{as_value}
 use Rattle.answer.proofs.Answers.{done-value}
 use Rattle.limbs.proofs.Modulo.{plus-law, minus-law, negative-law}
 use Rattle.residue.proofs.Reduction.{L-modulus}
@@ -76,22 +76,22 @@ module _ (a b : List ℕ) {n : ℕ} (en : n ≡ pair_refusal a b) (z : n ≡ 0) 
   in_both : (point_at a 0 < L) × (point_at b 0 < L)
   in_both = pair-members a b (sym en ∙ z)
 
-  pub sum-answer : {e : Element} {r : Value} → e ≡ added x y → r ≡ value_done e → r ≡ group_add a b
+  pub sum-answer : {e : Element} → e ≡ added x y → as_value (Ok e) ≡ group_add a b
   unfolding group_add point_at
-  sum-answer ee er = done-value (sym en ∙ z) _ er (ee ∙ plus-law L-modulus x y (ap value_of ex) (ap value_of ey) in_both.0 in_both.1)
+  sum-answer ee = done-value (sym en ∙ z) _ (ee ∙ plus-law L-modulus x y (ap value_of ex) (ap value_of ey) in_both.0 in_both.1)
 
-  pub difference-answer : {e : Element} {r : Value} → e ≡ subtracted x y → r ≡ value_done e → r ≡ group_subtract a b
+  pub difference-answer : {e : Element} → e ≡ subtracted x y → as_value (Ok e) ≡ group_subtract a b
   unfolding group_subtract point_at
-  difference-answer ee er = done-value (sym en ∙ z) _ er (ee ∙ minus-law L-modulus x y (ap value_of ex) (ap value_of ey) in_both.0 in_both.1)
+  difference-answer ee = done-value (sym en ∙ z) _ (ee ∙ minus-law L-modulus x y (ap value_of ex) (ap value_of ey) in_both.0 in_both.1)
 
 module _ (a : List ℕ) {n : ℕ} (en : n ≡ point_refusal a) (z : n ≡ 0) {x : Element} (ex : x ≡ element_at a 0) where
   in_one : point_at a 0 < L
   in_one = point-member a (sym en ∙ z)
 
-  pub inverse-answer : {e : Element} {r : Value} → e ≡ negated x → r ≡ value_done e → r ≡ group_negate a
+  pub inverse-answer : {e : Element} → e ≡ negated x → as_value (Ok e) ≡ group_negate a
   unfolding group_negate point_at
-  inverse-answer ee er = done-value (sym en ∙ z) _ er (ee ∙ negative-law L-modulus x (ap value_of ex) in_one)
+  inverse-answer ee = done-value (sym en ∙ z) _ (ee ∙ negative-law L-modulus x (ap value_of ex) in_one)
 
-  pub double-answer : {e : Element} {r : Value} → e ≡ added x x → r ≡ value_done e → r ≡ group_double a
+  pub double-answer : {e : Element} → e ≡ added x x → as_value (Ok e) ≡ group_double a
   unfolding group_double point_at
-  double-answer ee er = done-value (sym en ∙ z) _ er (ee ∙ plus-law L-modulus x x (ap value_of ex) (ap value_of ex) in_one in_one)
+  double-answer ee = done-value (sym en ∙ z) _ (ee ∙ plus-law L-modulus x x (ap value_of ex) (ap value_of ex) in_one in_one)

@@ -2,15 +2,16 @@
 #![tactic(auto)]
 
 ghost use Rattle.std.specs.Prelude.{◌≡◌};
-ghost use Rattle.rules.specs.Numbers.{answered};
+ghost use Rattle.rules.specs.Numbers.{as_number};
+ghost use Rattle.rules.specs.Results.{as_value};
 ghost use Rattle.rules.specs.Windows.{point_refusal};
 ghost use Rattle.rules.specs.Calls.{pair_refusal, group_add, group_subtract, group_negate, group_double};
 
-use rules::{Refusal, Value};
+use rules::{Element, Refusal};
 
 // What a call on one lent element answers.
 pub fn point_refusal(p: &[u64]) -> Result<(), Refusal>
-    ensures { answered result ≡ point_refusal p.now }
+    ensures { as_number result ≡ point_refusal p.now }
 {
     if p.len() != 4 {
         return Err(Refusal::NotWhole);
@@ -23,7 +24,7 @@ pub fn point_refusal(p: &[u64]) -> Result<(), Refusal>
 
 // What a call on two lent elements answers.
 fn pair_refusal(a: &[u64], b: &[u64]) -> Result<(), Refusal>
-    ensures { answered result ≡ pair_refusal a.now b.now }
+    ensures { as_number result ≡ pair_refusal a.now b.now }
 {
     if a.len() != 4 {
         return Err(Refusal::NotWhole);
@@ -41,41 +42,33 @@ fn pair_refusal(a: &[u64], b: &[u64]) -> Result<(), Refusal>
 }
 
 // The sum of two lent elements.
-pub fn add(a: &[u64], b: &[u64]) -> Value
-    ensures { result ≡ group_add a.now b.now }
+pub fn add(a: &[u64], b: &[u64]) -> Result<Element, Refusal>
+    ensures { as_value result ≡ group_add a.now b.now }
 {
-    if let Err(refusal) = pair_refusal(a, b) {
-        return answer::refused_value(refusal.number());
-    }
-    answer::value(residue::plus(flat::element_at(a, 0), flat::element_at(b, 0)))
+    pair_refusal(a, b)?;
+    Ok(residue::plus(flat::element_at(a, 0), flat::element_at(b, 0)))
 }
 
 // The difference of two lent elements.
-pub fn subtract(a: &[u64], b: &[u64]) -> Value
-    ensures { result ≡ group_subtract a.now b.now }
+pub fn subtract(a: &[u64], b: &[u64]) -> Result<Element, Refusal>
+    ensures { as_value result ≡ group_subtract a.now b.now }
 {
-    if let Err(refusal) = pair_refusal(a, b) {
-        return answer::refused_value(refusal.number());
-    }
-    answer::value(residue::minus(flat::element_at(a, 0), flat::element_at(b, 0)))
+    pair_refusal(a, b)?;
+    Ok(residue::minus(flat::element_at(a, 0), flat::element_at(b, 0)))
 }
 
 // The inverse of a lent element.
-pub fn negate(a: &[u64]) -> Value
-    ensures { result ≡ group_negate a.now }
+pub fn negate(a: &[u64]) -> Result<Element, Refusal>
+    ensures { as_value result ≡ group_negate a.now }
 {
-    if let Err(refusal) = point_refusal(a) {
-        return answer::refused_value(refusal.number());
-    }
-    answer::value(residue::negative(flat::element_at(a, 0)))
+    point_refusal(a)?;
+    Ok(residue::negative(flat::element_at(a, 0)))
 }
 
 // A lent element added to itself.
-pub fn double(a: &[u64]) -> Value
-    ensures { result ≡ group_double a.now }
+pub fn double(a: &[u64]) -> Result<Element, Refusal>
+    ensures { as_value result ≡ group_double a.now }
 {
-    if let Err(refusal) = point_refusal(a) {
-        return answer::refused_value(refusal.number());
-    }
-    answer::value(residue::twice(flat::element_at(a, 0)))
+    point_refusal(a)?;
+    Ok(residue::twice(flat::element_at(a, 0)))
 }

@@ -6,7 +6,7 @@ use Prim.Native.Nat.{ℕ}
 use native.Mathlib.Omega.{arith}
 use lib.ListN.{length}
 use lib.IntN.{ℤ, nat_abs}
-use Rattle.rules.specs.declared.ScalarBytes.{ScalarBytes}
+use Rattle.rules.specs.Answers.{ScalarBytes}
 use Rattle.rules.specs.Values.{places}
 use Rattle.rules.specs.Numbers.{first, bytes_answer}
 use Rattle.rules.specs.Rows.{not_long, width_off, no_scalar}

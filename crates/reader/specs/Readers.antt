@@ -1,6 +1,6 @@
 -- The readers' steps.
 use Rattle.std.specs.Prelude.{cond, not, ◌||◌, List, [], ◌∷◌, ℕ, ℤ, eqb}
-use Rattle.rules.specs.declared.ScalarBytes.{ScalarBytes}
+use Rattle.rules.specs.Answers.{ScalarBytes}
 use Rattle.rules.specs.Numbers.{not_whole, bad_width, bad_digit, first, bytes_answer}
 use Rattle.rules.specs.Rows.{not_long, width_off, same_row}
 

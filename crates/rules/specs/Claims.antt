@@ -3,11 +3,7 @@ use Rattle.std.specs.Prelude.{◌≡◌, Bool, true, false, List, [], ◌∷◌,
 use Rattle.rules.specs.declared.Value.{Value}
 use Rattle.rules.specs.declared.Counted.{Counted}
 use Rattle.rules.specs.declared.Sum.{Sum}
-use Rattle.rules.specs.declared.NafRow.{NafRow}
-use Rattle.rules.specs.declared.RadixRow.{RadixRow}
-use Rattle.rules.specs.declared.ScalarBytes.{ScalarBytes}
-use Rattle.rules.specs.declared.Window8.{Window8}
-use Rattle.rules.specs.declared.Window64.{Window64}
+use Rattle.rules.specs.Answers.{NafRow, RadixRow, ScalarBytes, Window8, Window64}
 use Rattle.rules.specs.Values.{limb, places}
 use Rattle.rules.specs.Group.{L}
 use Rattle.rules.specs.Numbers.{condition, counted}

@@ -5,8 +5,7 @@ use Prim.Native.Nat.{ℕ, ◌*◌, ◌<◌}
 use lib.ListN.{length, get_or, replicate}
 use borrow.Author.Tests.{ne_eqb}
 use Rattle.rules.specs.declared.Element.{Element}
-use Rattle.rules.specs.declared.Window8.{Window8}
-use Rattle.rules.specs.declared.Window64.{Window64}
+use Rattle.rules.specs.Answers.{Window8, Window64}
 use Rattle.rules.specs.Values.{limb, element_at, point_at}
 use Rattle.rules.specs.Group.{elements, residues}
 use Rattle.rules.specs.Numbers.{given, window8_answer, window64_answer}

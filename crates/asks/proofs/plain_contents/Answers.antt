@@ -1,19 +1,19 @@
 -- The two tests in their order, each by what it answered.
 use mathlib.Core.Path.{sym, ◌∙◌}
-use Rattle.rules.specs.Numbers.{answered, number_of}
+use Rattle.rules.specs.Numbers.{as_number, number_of}
 use Rattle.laws.specs.Conditions.{first-here, first_next, first-end}
 use Rattle.asks.proofs.plain_contents.Goals as goal
 
 pub returns-then-any_big : goal.returns-then-any_big
-unfolding answered number_of
+unfolding as_number number_of
 returns-then-any_big c = first-here _ _ _ (sym c.any_big.ensures ∙ c.if-any_big.true)
 
 pub returns-then-any_over : goal.returns-then-any_over
-unfolding answered number_of
+unfolding as_number number_of
 returns-then-any_over c =
     first_next _ _ _ _ (sym c.any_big.ensures ∙ c.if-any_big.false) (first-here _ _ _ (sym c.any_over.ensures ∙ c.if-any_over.true))
 
 pub returns : goal.returns
-unfolding answered number_of
+unfolding as_number number_of
 returns c =
     first_next _ _ _ _ (sym c.any_big.ensures ∙ c.if-any_big.false) (first_next _ _ _ _ (sym c.any_over.ensures ∙ c.if-any_over.false) first-end)

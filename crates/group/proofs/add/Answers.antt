@@ -1,14 +1,17 @@
--- Refused by its number, else the sum of two members.
+-- Refused, or the sum of two members.
+use Rattle.std.proofs.lemmas.Result.{err_from_is_err_and}
 use Rattle.rules.specs.Calls.{group_add}
-use Rattle.laws.specs.Refused.{passed-as-0}
+use Rattle.laws.specs.Refused.{passed-as-0, handed-on}
 use Rattle.answer.proofs.Answers.{refused-value}
 use Rattle.group.proofs.Answers.{sum-answer}
 use Rattle.group.proofs.add.Goals as goal
 
-pub returns-in-Err : goal.returns-in-Err
+pub returns-in_err-pair_refusal : goal.returns-in_err-pair_refusal
 unfolding group_add
-returns-in-Err c = refused-value c.in-Err.is c.number.ensures c.pair_refusal.ensures _ c.refused_value.ensures
+returns-in_err-pair_refusal c =
+    let p = err_from_is_err_and c.from_residual.result c.from_residual.ensures.1 in
+    refused-value (handed-on p.1 p.2 c.in_err-pair_refusal.was c.pair_refusal.ensures) _
 
 pub returns : goal.returns
 returns c =
-    sum-answer _ _ c.pair_refusal.ensures (passed-as-0 c.in_default.is) c.element_at.ensures c.element_at-2.ensures c.plus.ensures c.value.ensures
+    sum-answer _ _ c.pair_refusal.ensures (passed-as-0 c.in_ok-pair_refusal.was) c.element_at.ensures c.element_at-2.ensures c.plus.ensures

@@ -1,14 +1,17 @@
--- Refused by its number, else the double of a member.
+-- Refused, or the double of a member.
+use Rattle.std.proofs.lemmas.Result.{err_from_is_err_and}
 use Rattle.rules.specs.Calls.{group_double}
-use Rattle.laws.specs.Refused.{passed-as-0}
+use Rattle.laws.specs.Refused.{passed-as-0, handed-on}
 use Rattle.answer.proofs.Answers.{refused-value}
 use Rattle.group.proofs.Answers.{double-answer}
 use Rattle.group.proofs.double.Goals as goal
 
-pub returns-in-Err : goal.returns-in-Err
+pub returns-in_err-point_refusal : goal.returns-in_err-point_refusal
 unfolding group_double
-returns-in-Err c = refused-value c.in-Err.is c.number.ensures c.point_refusal.ensures _ c.refused_value.ensures
+returns-in_err-point_refusal c =
+    let p = err_from_is_err_and c.from_residual.result c.from_residual.ensures.1 in
+    refused-value (handed-on p.1 p.2 c.in_err-point_refusal.was c.point_refusal.ensures) _
 
 pub returns : goal.returns
 returns c =
-    double-answer _ c.point_refusal.ensures (passed-as-0 c.in_default.is) c.element_at.ensures c.twice.ensures c.value.ensures
+    double-answer _ c.point_refusal.ensures (passed-as-0 c.in_ok-point_refusal.was) c.element_at.ensures c.twice.ensures

@@ -1,6 +1,6 @@
 -- The scalar that has a NAF row.
 use mathlib.Core.Path.{◌∙◌, sym, ap}
-use Rattle.rules.specs.declared.NafRow.{NafRow}
+use Rattle.rules.specs.Answers.{NafRow}
 use Rattle.rules.specs.Numbers.{naf_answer}
 use Rattle.rules.specs.Rows.{naf_of, naf_row, read_naf, read_naf_refusal}
 use Rattle.laws.specs.RowsRule.{naf-obeys}

@@ -1,6 +1,6 @@
 -- The scalar that has a radix row.
 use mathlib.Core.Path.{◌∙◌, sym, ap}
-use Rattle.rules.specs.declared.RadixRow.{RadixRow}
+use Rattle.rules.specs.Answers.{RadixRow}
 use Rattle.rules.specs.Numbers.{radix_answer}
 use Rattle.rules.specs.Rows.{radix_of, radix_row, read_radix, read_radix_refusal}
 use Rattle.laws.specs.RowsRule.{radix-sum}

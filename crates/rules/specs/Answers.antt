@@ -1,0 +1,24 @@
+-- The answers in 01's form that carry a row, bytes or a window: the number, and what a done call carries. (A value, counts and a sum are types of src.)
+use Rattle.std.specs.Prelude.{List, ℕ, ℤ}
+
+pub record NafRow : Type 0 where
+  pub number : ℕ
+  pub row : List ℤ
+
+pub record RadixRow : Type 0 where
+  pub number : ℕ
+  pub row : List ℤ
+
+pub record ScalarBytes : Type 0 where
+  pub number : ℕ
+  pub bytes : List ℕ
+
+-- a window of 8 elements, flat
+pub record Window8 : Type 0 where
+  pub number : ℕ
+  pub limbs : List ℕ
+
+-- a window of 64 elements, flat
+pub record Window64 : Type 0 where
+  pub number : ℕ
+  pub limbs : List ℕ
