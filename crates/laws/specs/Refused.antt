@@ -36,3 +36,6 @@ unfolding as_number
 handed-on {e = e} {k = k} {m = m} by on is asked =
     let n : number_of k ≡ m = rw is at asked in
     rw by record { number = ap number_of on ∙ n; not-0 = refusal-not-0 e }
+
+pub refused-not-0 : {B : Type 0} {y : Result B Refusal} {m : ℕ} → Refused y m → m ≡ 0 → ⊥
+refused-not-0 r z = r.not-0 (r.number ∙ z)

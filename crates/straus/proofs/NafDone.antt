@@ -7,11 +7,11 @@ use native.Mathlib.Omega.{arith}
 use lib.ListN.{length, get_or, take}
 use lib.Dec.{lit≤}
 use lib.IntN.{ℤ, pos}
+use Rattle.std.specs.Prelude.{Ok}
 use Rattle.rules.specs.declared.Counts.{Counts}
 use Rattle.rules.specs.declared.Row.TheVariants.{Naf}
 use Rattle.rules.specs.declared.Window.TheVariants.{Odd8}
 use Rattle.rules.specs.declared.Walk.{Walk}
-use Rattle.rules.specs.declared.Sum.{Sum}
 use Rattle.rules.specs.Values.{limb, element_of, point_at, scalar_at}
 use Rattle.rules.specs.Group.{L, residues, total}
 use Rattle.rules.specs.Loops.{weight}
@@ -20,7 +20,8 @@ use Rattle.rules.specs.Rows.{naf_row}
 use Rattle.rules.specs.Windows.{odd, limbs_flat}
 use Rattle.rules.specs.Lists.{pairs}
 use Rattle.rules.specs.Engines.{products, rows_digit, entry_sum, naf_straus_refusal, naf_straus}
-use Rattle.rules.specs.Helpers.{sum_done, Made, windowed_rows, walked, laid, laid_rows, laid_windows}
+use Rattle.rules.specs.Helpers.{Made, windowed_rows, walked, laid, laid_rows, laid_windows}
+use Rattle.rules.specs.Results.{as_sum}
 use Rattle.laws.specs.Weight.{weight-le}
 use Rattle.laws.specs.NafRows.{naf-length}
 use Rattle.laws.specs.RadixRows.{scalar-has-row}
@@ -84,11 +85,10 @@ module _ (ss ps fs : List ℕ) (ds : List ℤ) (ls : List ℕ) {m : ℕ} (em : m
           let f : k.doublings ≡ 256 = ap (λ (t : Walk). t.doublings) walk_is in
           (omega arith, omega arith, weight-le (rows_digit (naf_row 5) ss) m 256)
 
-      pub naf-done : {r : Sum} {d' : List ℤ} {l' : List ℕ} → r ≡ sum_done k.element (c.additions + k.additions) (c.doublings + k.doublings)
-          → d' ≡ cleared (pos 0) (256 * m) d → l' ≡ cleared 0 (32 * m) l → record { result = r; digits = d'; limbs = l' } ≡ naf_straus ss ps fs ds ls
+      pub naf-done : {d' : List ℤ} {l' : List ℕ} → d' ≡ cleared (pos 0) (256 * m) d → l' ≡ cleared 0 (32 * m) l → record { result = as_sum (Ok (record { element = k.element; additions = c.additions + k.additions; doublings = c.doublings + k.doublings })); digits = d'; limbs = l' } ≡ naf_straus ss ps fs ds ls
       unfolding naf_straus
-      naf-done f g h =
+      naf-done g h =
           rw (sym naf-ok.pairs-are)
-          (after (done-sum z _ f (ap (λ (t : Walk). t.element) walk_is) naf-counts.0 naf-counts.1)
+          (after (done-sum z _ (ap (λ (t : Walk). t.element) walk_is) naf-counts.0 naf-counts.1)
           (g ∙ ap (cleared (pos 0) (256 * m)) rows ∙ laid-cleared 256 row_of m ds row-long (pos 0) (256 * m) naf-ok.digits (omega arith) ∙ sym (rw z (room-done (pos 0) (256 * m) ds)))
           (h ∙ ap (cleared 0 (32 * m)) windows ∙ laid-cleared 32 window_of m ls window-long 0 (32 * m) naf-ok.limbs (omega arith) ∙ sym (rw z (room-done 0 (32 * m) ls))))

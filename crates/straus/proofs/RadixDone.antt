@@ -6,11 +6,11 @@ use native.Mathlib.Omega.{arith}
 use lib.ListN.{length}
 use lib.Dec.{lit≤}
 use lib.IntN.{ℤ, pos}
+use Rattle.std.specs.Prelude.{Ok}
 use Rattle.rules.specs.declared.Counts.{Counts}
 use Rattle.rules.specs.declared.Row.TheVariants.{Radix}
 use Rattle.rules.specs.declared.Window.TheVariants.{Successive8}
 use Rattle.rules.specs.declared.Walk.{Walk}
-use Rattle.rules.specs.declared.Sum.{Sum}
 use Rattle.rules.specs.Values.{element_of, part, element_at, point_at, scalar_at}
 use Rattle.rules.specs.Group.{L, elements}
 use Rattle.rules.specs.Numbers.{cleared}
@@ -18,7 +18,8 @@ use Rattle.rules.specs.Rows.{digit, radix_row}
 use Rattle.rules.specs.Windows.{successive}
 use Rattle.rules.specs.Lists.{pairs}
 use Rattle.rules.specs.Engines.{products, radix_straus_refusal, radix_straus}
-use Rattle.rules.specs.Helpers.{sum_done, elements_flat, looked_up, Made, laid, laid_rows, laid_windows}
+use Rattle.rules.specs.Helpers.{elements_flat, looked_up, Made, laid, laid_rows, laid_windows}
+use Rattle.rules.specs.Results.{as_sum}
 use Rattle.laws.proofs.Room.{room-done}
 use Rattle.laws.proofs.Laid.{laid-part, laid-cleared}
 use Rattle.laws.specs.RadixRows.{radix-length}
@@ -77,11 +78,10 @@ module _ (ss ps : List ℕ) (ds : List ℤ) (ls : List ℕ) {m : ℕ} (em : m �
           let b : k.additions ≡ 64 * m = ap (λ (t : Walk). t.additions) walked in
           (omega arith, ap₂ ◌+◌ (ap (λ (t : Made). t.counts.doublings) all) (ap (λ (t : Walk). t.doublings) walked))
 
-      pub radix-done : {r : Sum} {d' : List ℤ} {l' : List ℕ} → r ≡ sum_done k.element (c.additions + k.additions) (c.doublings + k.doublings)
-          → d' ≡ cleared (pos 0) (64 * m) d → l' ≡ cleared 0 (32 * m) l → record { result = r; digits = d'; limbs = l' } ≡ radix_straus ss ps ds ls
+      pub radix-done : {d' : List ℤ} {l' : List ℕ} → d' ≡ cleared (pos 0) (64 * m) d → l' ≡ cleared 0 (32 * m) l → record { result = as_sum (Ok (record { element = k.element; additions = c.additions + k.additions; doublings = c.doublings + k.doublings })); digits = d'; limbs = l' } ≡ radix_straus ss ps ds ls
       unfolding radix_straus
-      radix-done f g h =
+      radix-done g h =
           rw (sym radix-ok.pairs-are)
-          (after (done-sum z _ f element-is radix-counts.0 radix-counts.1)
+          (after (done-sum z _ element-is radix-counts.0 radix-counts.1)
           (g ∙ ap (cleared (pos 0) (64 * m)) rows ∙ laid-cleared 64 row_of m ds row-long (pos 0) (64 * m) radix-ok.digits (omega arith) ∙ sym (rw z (room-done (pos 0) (64 * m) ds)))
           (h ∙ ap (cleared 0 (32 * m)) windows ∙ laid-cleared 32 window_of m ls window-long 0 (32 * m) radix-ok.limbs (omega arith) ∙ sym (rw z (room-done 0 (32 * m) ls))))

@@ -3,31 +3,34 @@
 
 ghost use Rattle.std.specs.Prelude.{◌≡◌};
 ghost use Rattle.rules.specs.Engines.{after, radix_straus, naf_straus};
+ghost use Rattle.rules.specs.Results.{as_sum};
 
-use rules::{Row, Sum, Window};
+use rules::{Refusal, Row, Walk, Window};
 
 pub(crate) mod naf;
 pub(crate) mod radix_16;
 
 // Radix-16 Straus.
-pub fn multiscalar_mul(scalars: &[u8], points: &[u64], digits: &mut [i8], limbs: &mut [u64]) -> Sum
-    ensures { after result digits.new limbs.new ≡ radix_straus scalars.now points.now digits.old limbs.old }
+pub fn multiscalar_mul(
+    scalars: &[u8],
+    points: &[u64],
+    digits: &mut [i8],
+    limbs: &mut [u64],
+) -> Result<Walk, Refusal>
+    ensures { after (as_sum result) digits.new limbs.new ≡ radix_straus scalars.now points.now digits.old limbs.old }
 {
-    let number = crate::radix_16::refusal(scalars, points, digits.len(), limbs.len());
-    if number != 0 {
-        return answer::refused_sum(number);
-    }
+    crate::radix_16::refusal(scalars, points, digits.len(), limbs.len())?;
     let m = lent::pairs(scalars, points);
     laying::rows(scalars, m, Row::Radix(4), &mut *digits);
     let made = laying::windows(points, m, Window::Successive8, &mut *limbs);
     let w = crate::radix_16::walk(digits, limbs, m);
     room::clear_digits(&mut *digits, 64 * m);
     room::clear_limbs(&mut *limbs, 32 * m);
-    answer::sum(
-        w.element,
-        made.additions + w.additions,
-        made.doublings + w.doublings,
-    )
+    Ok(Walk {
+        element: w.element,
+        additions: made.additions + w.additions,
+        doublings: made.doublings + w.doublings,
+    })
 }
 
 // NAF Straus.
@@ -37,13 +40,10 @@ pub fn optional_multiscalar_mul(
     flags: &[u8],
     digits: &mut [i8],
     limbs: &mut [u64],
-) -> Sum
-    ensures { after result digits.new limbs.new ≡ naf_straus scalars.now points.now flags.now digits.old limbs.old }
+) -> Result<Walk, Refusal>
+    ensures { after (as_sum result) digits.new limbs.new ≡ naf_straus scalars.now points.now flags.now digits.old limbs.old }
 {
-    let n = crate::naf::refusal(scalars, points, flags, digits.len(), limbs.len());
-    if n != 0 {
-        return answer::refused_sum(n);
-    }
+    crate::naf::refusal(scalars, points, flags, digits.len(), limbs.len())?;
     let m = lent::pairs(scalars, points);
     let e = 256 * m;
     let f = 32 * m;
@@ -54,9 +54,9 @@ pub fn optional_multiscalar_mul(
     let w = columns::walk(rows, windows, &rows[..0], &windows[..0], 256);
     room::clear_digits(&mut *digits, e);
     room::clear_limbs(&mut *limbs, f);
-    answer::sum(
-        w.element,
-        made.additions + w.additions,
-        made.doublings + w.doublings,
-    )
+    Ok(Walk {
+        element: w.element,
+        additions: made.additions + w.additions,
+        doublings: made.doublings + w.doublings,
+    })
 }

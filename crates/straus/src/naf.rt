@@ -1,25 +1,22 @@
 // NAF Straus: what it asks of its lists.
 ghost use Rattle.std.specs.Prelude.{◌≡◌};
+ghost use Rattle.rules.specs.Numbers.{as_number};
 ghost use Rattle.rules.specs.Engines.{naf_straus_refusal};
 
-// The number that the call answers.
+use rules::Refusal;
+
+// What the call asks, and the refusal where it is not so.
 pub(crate) fn refusal(
     scalars: &[u8],
     points: &[u64],
     flags: &[u8],
     digits: usize,
     limbs: usize,
-) -> u8
-    ensures { result ≡ naf_straus_refusal scalars.now points.now flags.now digits limbs }
+) -> Result<(), Refusal>
+    ensures { as_number result ≡ naf_straus_refusal scalars.now points.now flags.now digits limbs }
 {
-    let n = asks::lists(scalars, points, flags);
-    if n != 0 {
-        return n;
-    }
+    asks::lists(scalars, points, flags)?;
     let m = lent::pairs(scalars, points);
-    let k = asks::room(256 * m, digits, 32 * m, limbs);
-    if k != 0 {
-        return k;
-    }
+    asks::room(256 * m, digits, 32 * m, limbs)?;
     asks::contents(scalars, points, flags, points.len() / 4)
 }

@@ -2,26 +2,21 @@
 ghost use Rattle.std.specs.Prelude.{◌≡◌, ◌<◌, ◌+◌, ◌^◌, length};
 ghost use Rattle.rules.specs.Group.{added, elements};
 ghost use Rattle.rules.specs.Rows.{digit};
+ghost use Rattle.rules.specs.Numbers.{as_number};
 ghost use Rattle.rules.specs.Engines.{radix_straus_refusal};
 ghost use Rattle.rules.specs.Helpers.{looked_up};
 ghost use Rattle.laws.specs.RadixWalk.{radix_column};
 ghost use Rattle.straus.specs.Radix.{Rows, row_entry, radix_walked};
 
-use rules::{Element, Walk};
+use rules::{Element, Refusal, Walk};
 
-// The number that the call answers.
-pub(crate) fn refusal(scalars: &[u8], points: &[u64], digits: usize, limbs: usize) -> u8
-    ensures { result ≡ radix_straus_refusal scalars.now points.now digits limbs }
+// What the call asks, and the refusal where it is not so.
+pub(crate) fn refusal(scalars: &[u8], points: &[u64], digits: usize, limbs: usize) -> Result<(), Refusal>
+    ensures { as_number result ≡ radix_straus_refusal scalars.now points.now digits limbs }
 {
-    let n = asks::plain_lists(scalars, points);
-    if n != 0 {
-        return n;
-    }
+    asks::plain_lists(scalars, points)?;
     let m = lent::pairs(scalars, points);
-    let k = asks::room(64 * m, digits, 32 * m, limbs);
-    if k != 0 {
-        return k;
-    }
+    asks::room(64 * m, digits, 32 * m, limbs)?;
     asks::plain_contents(scalars, points)
 }
 

@@ -2,18 +2,23 @@
 use mathlib.Core.Path.{ap}
 use Prim.Native.Nat.{◌*◌, ◌≤◌}
 use native.Mathlib.Omega.{arith}
+use Rattle.std.proofs.lemmas.Result.{err_from_is_err_and}
+use Rattle.laws.specs.Refused.{passed-as-0, handed-on}
 use Rattle.rules.specs.Numbers.{most}
 use Rattle.rules.specs.Engines.{radix_straus_refusal}
 use Rattle.laws.specs.Conditions.{joined-here, joined-next}
 use Rattle.lent.proofs.Passed.{counts-few, room-is}
 use Rattle.straus.proofs.radix_16.refusal.Goals as goal
 
-pub returns-then-n-ne0 : goal.returns-then-n-ne0
+pub returns-in_err-plain_lists : goal.returns-in_err-plain_lists
 unfolding radix_straus_refusal
-returns-then-n-ne0 c = joined-here _ _ c.plain_lists-n.ensures c.if-n-ne0.true
+returns-in_err-plain_lists c =
+    let p = err_from_is_err_and c.from_residual.result c.from_residual.ensures.1 in
+    let r = handed-on p.1 p.2 c.in_err-plain_lists.was c.plain_lists.ensures in
+    joined-here _ _ r.number r.not-0
 
 few : (c : goal.After-pairs-m) → c.pairs-m.result ≤ most
-few c = omega (arith, c.pairs-m.ensures, (counts-few _ _ _ c.plain_lists-n.ensures c.if-n-ne0.false).1)
+few c = omega (arith, c.pairs-m.ensures, (counts-few _ _ _ c.plain_lists.ensures (passed-as-0 c.in_ok-plain_lists.was)).1)
 
 pub overflow_mul-m : goal.overflow_mul-m
 overflow_mul-m c = omega (arith, few c)
@@ -21,13 +26,16 @@ overflow_mul-m c = omega (arith, few c)
 pub overflow_mul-m-2 : goal.overflow_mul-m-2
 overflow_mul-m-2 c = omega (arith, few c)
 
-pub returns-then-k-ne0 : goal.returns-then-k-ne0
+pub returns-in_err-room : goal.returns-in_err-room
 unfolding radix_straus_refusal
-returns-then-k-ne0 c =
-    joined-next _ _ (omega arith) c.plain_lists-n.ensures c.if-n-ne0.false (joined-here _ _ (room-is _ _ (ap (◌*◌ 64) c.pairs-m.ensures) (ap (◌*◌ 32) c.pairs-m.ensures) c.room-k.ensures) c.if-k-ne0.true)
+returns-in_err-room c =
+    let p = err_from_is_err_and c.from_residual-in_err-room.result c.from_residual-in_err-room.ensures.1 in
+    let r = handed-on p.1 p.2 c.in_err-room.was c.room.ensures in
+    joined-next _ _ (omega arith) c.plain_lists.ensures (passed-as-0 c.in_ok-plain_lists.was)
+    (joined-here _ _ (room-is _ _ (ap (◌*◌ 64) c.pairs-m.ensures) (ap (◌*◌ 32) c.pairs-m.ensures) r.number) r.not-0)
 
 pub returns : goal.returns
 unfolding radix_straus_refusal
 returns c =
-    joined-next _ _ (omega arith) c.plain_lists-n.ensures c.if-n-ne0.false
-    (joined-next _ _ (omega arith) (room-is _ _ (ap (◌*◌ 64) c.pairs-m.ensures) (ap (◌*◌ 32) c.pairs-m.ensures) c.room-k.ensures) c.if-k-ne0.false c.plain_contents.ensures)
+    joined-next _ _ (omega arith) c.plain_lists.ensures (passed-as-0 c.in_ok-plain_lists.was)
+    (joined-next _ _ (omega arith) (room-is _ _ (ap (◌*◌ 64) c.pairs-m.ensures) (ap (◌*◌ 32) c.pairs-m.ensures) c.room-k.ensures) (passed-as-0 c.in_ok-room.was) c.plain_contents.ensures)
