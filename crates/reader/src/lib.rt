@@ -4,13 +4,25 @@
 ghost use Rattle.std.specs.Prelude.{◌≡◌, ◌+◌, ◌-◌, ◌*◌, ◌^◌};
 ghost use Rattle.rules.specs.Values.{value_of, element_of};
 ghost use Rattle.rules.specs.Numbers.{bytes_answer};
-ghost use Rattle.rules.specs.Rows.{same_digit, same_row, read_naf, read_radix};
+ghost use Rattle.rules.specs.Rows.{read_naf, read_radix};
 ghost use Rattle.laws.specs.DigitsSum.{plus, minus};
 ghost use Rattle.reader.specs.Readers.{shape_refusal, compared_rows};
 ghost use Rattle.reader.specs.Sums.{Whole, Says, SaysBytes};
 
 use digit::magnitude;
-use rules::{Element, ScalarBytes};
+use rules::{Element, RowAnswer, ScalarBytes};
+
+// A number of one limb.
+fn limbs_of(n: u64) -> Element
+    ensures { result ≡ record { l0 = n; l1 = 0; l2 = 0; l3 = 0 } }
+{
+    Element {
+        l0: n,
+        l1: 0,
+        l2: 0,
+        l3: 0,
+    }
+}
 
 // A number doubled w times, modulo 2^256.
 fn doubled(q: Element, w: usize) -> Element
@@ -19,8 +31,7 @@ fn doubled(q: Element, w: usize) -> Element
 {
     let mut r = q;
     for _ in 0..w {
-        let twice = limbs::sum(r, r);
-        r = twice.element;
+        r = limbs::sum(r, r).element;
     }
     r
 }
@@ -29,18 +40,11 @@ fn doubled(q: Element, w: usize) -> Element
 fn with_digit(q: Element, d: i8) -> Element
     ensures { result ≡ element_of (value_of q + 2 ^ 256 + plus d - minus d) }
 {
-    let x = Element {
-        l0: magnitude(d) as u64,
-        l1: 0,
-        l2: 0,
-        l3: 0,
-    };
+    let x = limbs_of(magnitude(d) as u64);
     if d < 0 {
-        let less = limbs::difference(q, x);
-        less.element
+        limbs::difference(q, x).element
     } else {
-        let more = limbs::sum(q, x);
-        more.element
+        limbs::sum(q, x).element
     }
 }
 
@@ -48,15 +52,8 @@ fn with_digit(q: Element, d: i8) -> Element
 fn row_sum(row: &[i8], w: usize) -> Element
     ensures { Says w row.now result }
 {
-    let mut q = Element {
-        l0: 0,
-        l1: 0,
-        l2: 0,
-        l3: 0,
-    };
-    let mut i = row.len();
-    while 0 < i {
-        i -= 1;
+    let mut q = limbs_of(0);
+    for i in (0..row.len()).rev() {
         q = with_digit(doubled(q, w), row[i]);
     }
     q
@@ -68,30 +65,6 @@ fn row_bytes(row: &[i8], w: usize) -> [u8; 32]
 {
     let limbs = flat::array(row_sum(row, w));
     words::bytes(&limbs)
-}
-
-// Whether two digits are the same.
-fn same_digit(x: i8, y: i8) -> bool
-    ensures { result ≡ same_digit x y }
-{
-    x == y
-}
-
-// Whether two rows are the same.
-fn same_row(a: &[i8], b: &[i8]) -> bool
-    ensures { result ≡ same_row a.now b.now }
-{
-    if a.len() != b.len() {
-        return false;
-    }
-    let mut i: usize = 0;
-    while i < a.len() {
-        if !same_digit(a[i], b[i]) {
-            return false;
-        }
-        i += 1;
-    }
-    true
 }
 
 // A refused reading.
@@ -119,13 +92,14 @@ fn shape_refusal(row: &[i8], long: usize, low: usize, w: usize) -> u8
 }
 
 // The bytes that a row sums to, where they are recoded and their row, again, is that row.
-fn compared(row: &[i8], number: u8, again: &[i8], bytes: [u8; 32]) -> ScalarBytes
-    ensures { result ≡ compared_rows row.now number again.now bytes }
+fn compared<const N: usize>(row: &[i8], again: RowAnswer<N>, bytes: [u8; 32]) -> ScalarBytes
+    ensures { result ≡ compared_rows row.now again.entry.number again.entry.row bytes }
 {
+    let number = again.number;
     if number != 0 {
         return refused(10);
     }
-    if !same_row(again, row) {
+    if again.row.as_slice() != row {
         return refused(10);
     }
     ScalarBytes { number, bytes }
@@ -140,9 +114,7 @@ pub fn read_naf(row: &[i8], w: usize) -> ScalarBytes
         return refused(number);
     }
     let bytes = row_bytes(row, 1);
-    let naf = scalar::non_adjacent_form(&bytes, w);
-    let again = naf.row;
-    compared(row, naf.number, &again, bytes)
+    compared(row, scalar::non_adjacent_form(&bytes, w), bytes)
 }
 
 // The scalar below 2^255 that has a radix 2^w row.
@@ -154,7 +126,5 @@ pub fn read_radix(row: &[i8], w: usize) -> ScalarBytes
         return refused(number);
     }
     let bytes = row_bytes(row, w);
-    let radix = radix::as_radix_2w(&bytes, w);
-    let again = radix.row;
-    compared(row, radix.number, &again, bytes)
+    compared(row, radix::as_radix_2w(&bytes, w), bytes)
 }

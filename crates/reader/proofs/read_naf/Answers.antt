@@ -1,7 +1,6 @@
 -- The scalar that has a NAF row.
 use mathlib.Core.Path.{◌∙◌, sym, ap}
-use Rattle.rules.specs.declared.NafRow.{NafRow}
-use Rattle.rules.specs.Numbers.{naf_answer}
+use Rattle.rules.specs.Numbers.{NafRow, row_answer}
 use Rattle.rules.specs.Rows.{naf_of, naf_row, read_naf, read_naf_refusal}
 use Rattle.laws.specs.RowsRule.{naf-obeys}
 use Rattle.bits.proofs.Refusals.{width-in}
@@ -14,12 +13,12 @@ unfolding read_naf read_naf_refusal
 returns-then-number-ne0 c = read-refused 256 2 _ _ _ _ _ _ c.shape_refusal-number.ensures c.if-number-ne0.true c.refused.ensures
 
 pub returns : goal.returns
-unfolding read_naf read_naf_refusal naf_of naf_answer
+unfolding read_naf read_naf_refusal naf_of row_answer
 returns c =
     let w = c.args.w in
     let right = sym c.if-number-ne0.false ∙ c.shape_refusal-number.ensures in
     let p = shape-passed 256 2 _ w right in
     let in-range = width-in 2 w p.1 in
-    let again = c.non_adjacent_form-naf.ensures in
+    let again = c.non_adjacent_form.ensures in
     c.compared.ensures
     ∙ compared_is 1 256 (naf_row w) (λ k l. (naf-obeys w in-range.0 k l).sum_is) _ p.0 _ c.row_bytes-bytes.ensures 2 w right _ (ap (λ (x : NafRow). x.number) again) _ _ (ap (λ (x : NafRow). x.row) again)

@@ -1,7 +1,7 @@
 -- The NAF row of a scalar, or why there is none.
 use Rattle.std.proofs.Common.{◌≡◌, ℕ, List, replicate, ℤ, pos, sym, ap, ◌∙◌}
 use Rattle.rules.specs.Values.{number}
-use Rattle.rules.specs.Numbers.{naf_answer}
+use Rattle.rules.specs.Numbers.{row_answer}
 use Rattle.rules.specs.Rows.{recode_refusal, naf_row, naf_row_of, naf_of}
 use Rattle.laws.specs.Conditions.{given-done, given-refused}
 use Rattle.bits.proofs.Refusals.{passed, all-taken}
@@ -10,11 +10,11 @@ use Rattle.scalar.proofs.non_adjacent_form.Goals as goal
 -- refused, and done
 module _ (l : List ℕ) (w n : ℕ) where
   refused : n ≡ recode_refusal 2 l w → (n ≡ 0 → ⊥) → record { number = n; row = replicate 256 (pos 0) } ≡ naf_of l w
-  unfolding naf_of naf_answer
+  unfolding naf_of row_answer
   refused e h = rw (← e, given-refused (replicate 256 (pos 0)) (naf_row w (number 256 l)) n h)
 
   done : n ≡ recode_refusal 2 l w → n ≡ 0 → (row : List ℤ) → row ≡ naf_row_of l w → record { number = n; row = row } ≡ naf_of l w
-  unfolding naf_of naf_answer naf_row_of
+  unfolding naf_of row_answer naf_row_of
   done e z row r =
       let p = passed 2 l w (sym z ∙ e) in
       rw (← e, z, given-done (replicate 256 (pos 0)) (naf_row w (number 256 l))) (ap (λ (x : List ℤ). record { number = 0; row = x }) (r ∙ rw (p.1.0, all-taken l p.0)))
