@@ -1,2 +1,1 @@
 pub mod Zeros
-pub mod Answers

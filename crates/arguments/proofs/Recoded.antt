@@ -8,7 +8,7 @@ use lib.ListN.{length}
 use lib.IntN.{ℤ}
 use borrow.Author.Tests.{ltb-false, leb-false}
 use Rattle.rules.specs.Values.{number}
-use Rattle.rules.specs.Numbers.{row_bound, bad_digit, naf_answer, radix_answer}
+use Rattle.rules.specs.Numbers.{row_bound, bad_digit, row_answer}
 use Rattle.rules.specs.Rows.{IsNaf, IsRadix, naf_row, radix_row, width_off, rowless, recode_conditions, recode_refusal, naf_of, radix_of, read_naf, read_radix}
 use Rattle.laws.specs.Conditions.{or_split, given-done}
 use Rattle.laws.specs.RowsRule.{naf-obeys, naf-only}
@@ -33,13 +33,13 @@ module _ (row : List ℤ) (w s : ℕ) (l : s < row_bound) where
   radix-rule lo hi = (radix-only w lo hi row s l, λ q. rw q (radix-obeys w lo hi s l))
 
 pub naf-one-row : (l : List ℕ) (w : ℕ) → (naf_of l w).number ≡ 0 → (row : List ℤ) → IsNaf w row (number 256 l) ↔ (row ≡ (naf_of l w).row)
-unfolding naf_of naf_answer
+unfolding naf_of row_answer
 naf-one-row l w e row =
     let r = recoded 2 l w e in
     rw (e, given-done _ (naf_row w (number 256 l))) (naf-rule row w (number 256 l) r.2 r.0)
 
 pub radix-one-row : (l : List ℕ) (w : ℕ) → (radix_of l w).number ≡ 0 → (row : List ℤ) → IsRadix w row (number 256 l) ↔ (row ≡ (radix_of l w).row)
-unfolding radix_of radix_answer
+unfolding radix_of row_answer
 radix-one-row l w e row =
     let r = recoded 4 l w e in
     rw (e, given-done _ (radix_row w (number 256 l))) (radix-rule row w (number 256 l) r.2 r.0 r.1)

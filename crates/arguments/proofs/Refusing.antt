@@ -7,9 +7,9 @@ use native.Mathlib.Omega.{arith}
 use lib.IntN.{ℤ, pos}
 use borrow.Author.Tests.{ne_eqb}
 use Rattle.rules.specs.Values.{places}
-use Rattle.rules.specs.Numbers.{first, condition, given, valued, counted, summed, naf_answer, radix_answer, bytes_answer, window8_answer, window64_answer, room_after}
+use Rattle.rules.specs.Numbers.{first, condition, given, valued, counted, summed, row_answer, bytes_answer, window8_answer, window64_answer, room_after}
 use Rattle.rules.specs.Batch.{Memory}
-use Rattle.rules.specs.Claims.{Kind, a_value, a_count, a_sum, a_naf_row, a_radix_row, a_scalar, a_window8, a_window64, with_room, with_tables, with_memory, Refuses}
+use Rattle.rules.specs.Claims.{Kind, a_value, a_count, a_sum, a_row, a_scalar, a_window8, a_window64, with_room, with_tables, with_memory, Refuses}
 use Rattle.laws.specs.Answers.{Rising, first-answers, first_done}
 use Rattle.laws.specs.Conditions.{given-refused}
 
@@ -33,13 +33,9 @@ module _ (c : List (Bool × ℕ)) (rise : Rising 0 c) where
   pub sum-refuses : (v a d : ℕ) → Refuses a_sum c (summed (first c) v a d)
   sum-refuses v a d = refuses a_sum _ (unfold summed in refl) (λ h. no-sum _ h v a d)
 
-  pub naf-row-refuses : (row : List ℤ) → Refuses a_naf_row c (naf_answer (first c) row)
-  unfolding naf_answer given
-  naf-row-refuses row = refuses a_naf_row _ refl (λ h. rw (ne_eqb (first c) 0 h))
-
-  pub radix-row-refuses : (row : List ℤ) → Refuses a_radix_row c (radix_answer (first c) row)
-  unfolding radix_answer given
-  radix-row-refuses row = refuses a_radix_row _ refl (λ h. rw (ne_eqb (first c) 0 h))
+  pub row-refuses : (N : ℕ) (row : List ℤ) → Refuses (a_row N) c (row_answer N (first c) row)
+  unfolding row_answer given
+  row-refuses N row = refuses (a_row N) _ refl (λ h. rw (ne_eqb (first c) 0 h))
 
   pub scalar-refuses : (s : ℕ) → Refuses a_scalar c (bytes_answer (first c) s)
   unfolding bytes_answer given places

@@ -31,7 +31,8 @@ use Rattle.laws.specs.Conditions.{or_split, first-none, joined-here, joined-next
 use Rattle.laws.specs.Walk.{Named}
 use Rattle.laws.specs.Weight.{weight-none}
 use Rattle.lent.proofs.Passed.{there-under}
-use Rattle.answer.proofs.Answers.{refused-counted, done-counted, done-sum}
+use Rattle.laws.specs.Results.{refused-counted, done-counted}
+use Rattle.limbs.proofs.Done.{done-sum}
 use Rattle.limbs.proofs.Elements.{Ranged}
 use Rattle.window.proofs.Flat.{odd-limbs, limbs-length}
 use Rattle.laws.proofs.Puts.{put-stored}

@@ -11,7 +11,7 @@ use Rattle.rules.specs.Calls.{pair_conditions, pair_refusal, group_add, group_su
 use Rattle.rules.specs.Engines.{radix_straus_conditions, radix_straus_refusal, radix_straus, naf_straus_conditions, naf_straus_refusal, naf_straus, pippenger_conditions, pippenger_refusal, pippenger, new_conditions, new_refusal, new_tables, mixed_conditions, mixed_refusal, mixed, single_conditions, single_refusal, single, double_conditions, double_refusal, double}
 use Rattle.rules.specs.Batch.{Memory, prepare_conditions, prepare_refusal, prepare, set_conditions, set_refusal, set_slot, clear_slot, total_conditions, total_refusal, total_of}
 use Rattle.rules.specs.Claims.{Refuses, a_value, a_sum, a_naf_row, a_radix_row, a_scalar, a_window8, a_window64, with_room, with_tables, with_memory}
-use Rattle.arguments.proofs.Refusing.{value-refuses, sum-refuses, naf-row-refuses, radix-row-refuses, scalar-refuses, window8-refuses, window64-refuses, room-refuses, tables-refuse, memory-refuses, never}
+use Rattle.arguments.proofs.Refusing.{value-refuses, sum-refuses, row-refuses, scalar-refuses, window8-refuses, window64-refuses, room-refuses, tables-refuse, memory-refuses, never}
 
 -- the group
 pub group-add-refuses : (a b : List ℕ) → Refuses a_value (pair_conditions a b) (group_add a b)
@@ -33,11 +33,11 @@ group-doubling-refuses a = value-refuses _ (omega arith) _
 -- rows
 pub naf-refuses : (l : List ℕ) (w : ℕ) → Refuses a_naf_row (recode_conditions 2 l w) (naf_of l w)
 unfolding naf_of recode_refusal
-naf-refuses l w = naf-row-refuses _ (omega arith) _
+naf-refuses l w = row-refuses _ (omega arith) 256 _
 
 pub radix-refuses : (l : List ℕ) (w : ℕ) → Refuses a_radix_row (recode_conditions 4 l w) (radix_of l w)
 unfolding radix_of recode_refusal
-radix-refuses l w = radix-row-refuses _ (omega arith) _
+radix-refuses l w = row-refuses _ (omega arith) 64 _
 
 pub read-naf-refuses : (row : List ℤ) (w : ℕ) → Refuses a_scalar (read_naf_conditions row w) (read_naf row w)
 unfolding read_naf read_naf_refusal

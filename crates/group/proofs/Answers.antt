@@ -16,7 +16,7 @@ use Rattle.rules.specs.Rows.{not_long}
 use Rattle.rules.specs.Windows.{over, any_over, point_refusal}
 use Rattle.rules.specs.Calls.{pair_refusal, group_add, group_subtract, group_negate, group_double}
 use Rattle.rules.specs.Results.{as_value}
-use Rattle.answer.proofs.Answers.{done-value}
+use Rattle.limbs.proofs.Done.{done-value}
 use Rattle.limbs.proofs.Modulo.{plus-law, minus-law, negative-law}
 use Rattle.residue.proofs.Reduction.{L-modulus}
 

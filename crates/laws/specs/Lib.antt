@@ -19,7 +19,7 @@ pub mod NafRows
 pub mod RowsRule
 pub mod RowsRead
 pub mod Conditions
-pub mod Refused
+pub mod Results
 pub mod Answers
 pub mod Parts
 pub mod Running

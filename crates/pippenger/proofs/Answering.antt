@@ -17,7 +17,8 @@ use Rattle.rules.specs.Engines.{After, bucket_width, picked_by, bucket_limbs, pi
 use Rattle.laws.proofs.Room.{room-refused, room-done}
 use Rattle.laws.proofs.Laid.{laid-cleared}
 use Rattle.laws.specs.BucketWalk.{Walked}
-use Rattle.answer.proofs.Answers.{refused-sum, done-sum}
+use Rattle.laws.specs.Results.{refused-sum}
+use Rattle.limbs.proofs.Done.{done-sum}
 use Rattle.pippenger.proofs.Refusing.{Ready}
 use Rattle.pippenger.proofs.Summing.{row-long, rows, sum_is, additions-are}
 

@@ -19,7 +19,8 @@ use Rattle.laws.specs.RadixRows.{scalar-has-row}
 use Rattle.laws.specs.Conditions.{or_split}
 use Rattle.laws.specs.Answers.{first_done}
 use Rattle.laws.proofs.Room.{cleared-rest, room-refused, room-done}
-use Rattle.answer.proofs.Answers.{refused-sum, done-sum}
+use Rattle.laws.specs.Results.{refused-sum}
+use Rattle.limbs.proofs.Done.{done-sum}
 use Rattle.lent.proofs.Passed.{small, there-under}
 use Rattle.precomputed_straus.specs.Fill.{Ready, mixed_walk}
 use Rattle.precomputed_straus.proofs.Asked.{few-rows}

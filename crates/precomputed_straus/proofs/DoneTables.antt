@@ -21,7 +21,7 @@ use Rattle.rules.specs.Helpers.{Made, counted_done, laid_windows}
 use Rattle.laws.specs.Conditions.{given-refused}
 use Rattle.laws.specs.Answers.{first_done}
 use Rattle.laws.proofs.Laid.{laid-all}
-use Rattle.answer.proofs.Answers.{refused-counted, done-counted}
+use Rattle.laws.specs.Results.{refused-counted, done-counted}
 use Rattle.lent.proofs.Passed.{under}
 use Rattle.window.proofs.Flat.{limbs-length}
 use Rattle.laying.proofs.Built.{odd64-laid}

@@ -17,7 +17,6 @@ use mir.Val.{to_z, of_z}
 use mir.Facts.{to_z-of_z}
 use Rattle.radix.specs.Nibbles.{Small, Nibbles}
 use Rattle.laws.proofs.Numerals.{number_at, number-from}
-use Rattle.radix.proofs.Ints.{fits8}
 
 -- ---- a byte of the first 32, in the number that they say
 
@@ -110,7 +109,7 @@ centring-end N l row i h e =
 
 -- a small digit is kept in eight bits
 kept : (z : ℤ) → Small z → to_z w8 (of_z w8 z) ≡ z
-kept z s = to_z-of_z {w = w8} (rw s.0 (fits8 (nat_abs z) (omega (arith, s.1))))
+kept z s = to_z-of_z {w = w8} (rw s.0 (record { sfits = omega (arith, s.1) }))
 
 module _ (N : ℕ) (row : List ℤ) (i : ℕ) (h : Centring N row i) (lt : i < 63) where
   v : ℕ

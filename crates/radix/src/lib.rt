@@ -4,19 +4,22 @@
 ghost use Rattle.std.specs.Prelude.{◌≡◌, ◌+◌, ◌*◌, ◌/◌, ◌%◌, ◌≤◌, ◌<◌, take, pos, nat_abs};
 ghost use Rattle.std.proofs.Math.IntN.{sub_ℕ};
 ghost use Rattle.rules.specs.Values.{number};
+ghost use Rattle.rules.specs.Results.{as_row};
 ghost use Rattle.rules.specs.Rows.{used_places, radix_of, radix_row, radix_row_of};
 ghost use Rattle.radix.specs.Nibbles.{Small, Nibbles};
 
-use rules::RadixRow;
+use rules::Refusal;
 
 // The places that radix 2^w uses: 64, 52, 43, 37, 33 for w = 4 to 8.
+#[tactic(auto, unfolding(rules::specs::Rows::used_places))]
 pub fn to_radix_2w_size_hint(w: usize) -> usize
     ensures { result ≡ used_places w }
 {
-    if w == 0 {
-        return 1;
+    match w {
+        0 => 1,
+        4 => 64,
+        _ => 256 / w + 1,
     }
-    if w == 4 { 64 } else { 256 / w + 1 }
 }
 
 // The low four bits of a byte.
@@ -114,37 +117,28 @@ fn radix_2w(scalar: &[u8], w: usize) -> [i8; 64]
 }
 
 // The radix 2^w row of the first 32 bytes for the engines, zeros at a width outside 4 to 8.
+#[tactic(auto, unfolding(rules::specs::Rows::radix_row_of, rules::specs::Rows::width_off))]
 pub fn radix_row(scalar: &[u8], w: usize) -> [i8; 64]
     ensures { result ≡ radix_row_of scalar.now w }
 {
-    if w < 4 {
-        return [0i8; 64];
+    match w {
+        4 => radix_16(scalar),
+        5..=8 => radix_2w(scalar, w),
+        _ => [0; 64],
     }
-    if 8 < w {
-        return [0i8; 64];
-    }
-    if w == 4 {
-        return radix_16(scalar);
-    }
-    radix_2w(scalar, w)
 }
 
 // The radix 2^w row of a scalar.
-pub fn as_radix_2w(scalar: &[u8], w: usize) -> RadixRow
-    ensures { result ≡ radix_of scalar.now w }
+pub fn as_radix_2w(scalar: &[u8], w: usize) -> Result<[i8; 64], Refusal>
+    ensures { as_row 64 result ≡ radix_of scalar.now w }
 {
-    let number = bits::recode_refusal(scalar, 4, w);
-    if number != 0 {
-        let row = [0i8; 64];
-        return RadixRow { number, row };
-    }
-    let row = radix_row(scalar, w);
-    RadixRow { number, row }
+    bits::recode_refusal(scalar, 4, w)?;
+    Ok(radix_row(scalar, w))
 }
 
 // The radix-16 row of a scalar.
-pub fn as_radix_16(scalar: &[u8]) -> RadixRow
-    ensures { result ≡ radix_of scalar.now 4 }
+pub fn as_radix_16(scalar: &[u8]) -> Result<[i8; 64], Refusal>
+    ensures { as_row 64 result ≡ radix_of scalar.now 4 }
 {
     as_radix_2w(scalar, 4)
 }

@@ -1,16 +1,19 @@
 -- What the readers answer: refused for a row's shape, refused since no scalar has it, and done.
-use mathlib.Core.Path.{◌≡◌, sym, ◌∙◌}
+use mathlib.Core.Path.{◌≡◌, refl, ◌∙◌}
 use mathlib.Core.Bool.{Bool, true, false}
 use mathlib.Core.List.{List, [], ◌∷◌}
 use Prim.Native.Nat.{ℕ}
 use native.Mathlib.Omega.{arith}
 use lib.ListN.{length}
 use lib.IntN.{ℤ, nat_abs}
-use Rattle.rules.specs.Answers.{ScalarBytes}
+use Rattle.std.specs.Prelude.{Result}
+use Rattle.rules.specs.declared.Refusal.{Refusal}
 use Rattle.rules.specs.Values.{places}
 use Rattle.rules.specs.Numbers.{first, bytes_answer}
 use Rattle.rules.specs.Rows.{not_long, width_off, no_scalar}
+use Rattle.rules.specs.Results.{as_scalar_bytes}
 use Rattle.laws.specs.Conditions.{first-none, given-done, given-refused, given-same}
+use Rattle.laws.specs.Results.{Refused, refused-not-0, refused-bytes}
 use Rattle.bits.proofs.Refusals.{is-long, long-is}
 use Rattle.reader.specs.Readers.{shape_refusal}
 
@@ -26,15 +29,14 @@ module _ (n low w : ℕ) (row_of : ℕ → List ℤ) (row : List ℤ) (z : ℤ) 
   read_refusal = first ((not_long n row, 1) ∷ (width_off low w, 3) ∷ (no_scalar row_of z row, 10) ∷ [])
 
   -- refused for its shape
-  pub read-refused : (k : ℕ) (r : ScalarBytes) → k ≡ shape_refusal n low row w → (k ≡ 0 → ⊥) → r ≡ bytes_answer k 0 → r ≡ bytes_answer read_refusal (nat_abs z)
-  unfolding shape_refusal first bytes_answer
-  read-refused k r e h f =
-      f ∙ rw (go (not_long n row) (width_off low w) e, given-refused 0 (nat_abs z) k h, given-same {A = ℕ} k 0)
+  pub read-refused : {y : Result (List ℕ) Refusal} → Refused y (shape_refusal n low row w) → as_scalar_bytes y ≡ bytes_answer read_refusal (nat_abs z)
+  unfolding shape_refusal first
+  read-refused r = refused-bytes (record { number = r.number ∙ go (not_long n row) (width_off low w) (refused-not-0 r); not-0 = r.not-0 }) (nat_abs z)
     where
-      go : (a b : Bool) → k ≡ first ((a, 1) ∷ (b, 3) ∷ []) → first ((a, 1) ∷ (b, 3) ∷ (no_scalar row_of z row, 10) ∷ []) ≡ k
-      go true b q = sym q
-      go false true q = sym q
-      go false false q = absurd (h q)
+      go : (a b : Bool) → (first ((a, 1) ∷ (b, 3) ∷ []) ≡ 0 → ⊥) → first ((a, 1) ∷ (b, 3) ∷ []) ≡ first ((a, 1) ∷ (b, 3) ∷ (no_scalar row_of z row, 10) ∷ [])
+      go true b h = refl
+      go false true h = refl
+      go false false h = absurd (h refl)
 
   -- where its shape is right, it is answered by whether a scalar has it
   module _ (right : 0 ≡ shape_refusal n low row w) where

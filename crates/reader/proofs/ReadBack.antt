@@ -10,7 +10,7 @@ use lib.ListN.{length, replicate}
 use lib.IntN.{ℤ, pos, nat_abs}
 use borrow.Author.Tests.{leb-false, lt-leb}
 use Rattle.rules.specs.Values.{number, places, Below}
-use Rattle.rules.specs.Numbers.{row_bound, first, naf_answer, radix_answer, bytes_answer, bad_digit}
+use Rattle.rules.specs.Numbers.{row_bound, first, row_answer, bytes_answer, bad_digit}
 use Rattle.rules.specs.Rows.{digit, row_sum, not_long, width_off, rowless, no_scalar, recode_refusal, naf_row, radix_row, naf_of, radix_of, read_naf, read_naf_refusal, read_radix, read_radix_refusal}
 use Rattle.laws.specs.Conditions.{first-none, given-done}
 use Rattle.laws.specs.NafRows.{naf-length}
@@ -120,7 +120,7 @@ naf-found w lo hi = naf-reads w lo
 
 -- recode then read gives the scalar
 pub naf-recode-read : (l : List ℕ) → Below 256 l → (w : ℕ) → (naf_of l w).number ≡ 0 → read_naf (naf_of l w).row w ≡ record { number = 0; bytes = l }
-unfolding naf_of naf_answer read_naf read_naf_refusal bytes_answer
+unfolding naf_of row_answer read_naf read_naf_refusal bytes_answer
 naf-recode-read l b w e =
     let r = recoded 256 2 naf_row naf-value naf-long naf-back naf-found l w (sym e) in
     let t : places 256 32 (number 256 l) ≡ l = ap (λ (k : ℕ). places 256 k (number 256 l)) (sym r.0) ∙ same-places l b in
@@ -128,7 +128,7 @@ naf-recode-read l b w e =
 
 -- read then recode gives the row
 pub naf-read-recode : (row : List ℤ) (w : ℕ) → (read_naf row w).number ≡ 0 → naf_of (read_naf row w).bytes w ≡ record { number = 0; row = row }
-unfolding naf_of naf_answer read_naf read_naf_refusal bytes_answer
+unfolding naf_of row_answer read_naf read_naf_refusal bytes_answer
 naf-read-recode row w e =
     let r = read 256 2 naf_row naf-value naf-long naf-back naf-found row w (sym e) in
     rw (e, given-done 0 (nat_abs (naf-value w row)), ← r.0, given-done (replicate 256 (pos 0)) (naf_row w (number 256 (places 256 32 (nat_abs (naf-value w row))))), r.1)
@@ -155,7 +155,7 @@ radix-found w lo hi = radix-reads w lo hi
 
 -- recode then read gives the scalar
 pub radix-recode-read : (l : List ℕ) → Below 256 l → (w : ℕ) → (radix_of l w).number ≡ 0 → read_radix (radix_of l w).row w ≡ record { number = 0; bytes = l }
-unfolding radix_of radix_answer read_radix read_radix_refusal bytes_answer
+unfolding radix_of row_answer read_radix read_radix_refusal bytes_answer
 radix-recode-read l b w e =
     let r = recoded 64 4 radix_row radix-value radix-long radix-back radix-found l w (sym e) in
     let t : places 256 32 (number 256 l) ≡ l = ap (λ (k : ℕ). places 256 k (number 256 l)) (sym r.0) ∙ same-places l b in
@@ -163,7 +163,7 @@ radix-recode-read l b w e =
 
 -- read then recode gives the row
 pub radix-read-recode : (row : List ℤ) (w : ℕ) → (read_radix row w).number ≡ 0 → radix_of (read_radix row w).bytes w ≡ record { number = 0; row = row }
-unfolding radix_of radix_answer read_radix read_radix_refusal bytes_answer
+unfolding radix_of row_answer read_radix read_radix_refusal bytes_answer
 radix-read-recode row w e =
     let r = read 64 4 radix_row radix-value radix-long radix-back radix-found row w (sym e) in
     rw (e, given-done 0 (nat_abs (radix-value w row)), ← r.0, given-done (replicate 64 (pos 0)) (radix_row w (number 256 (places 256 32 (nat_abs (radix-value w row))))), r.1)

@@ -1,4 +1,4 @@
--- What the readers do: digits and rows compared, and that the row of what was read is the given row exactly where some scalar has it.
+-- What the readers do: rows compared, and that the row of what was read is the given row exactly where some scalar has it.
 use mathlib.Core.Path.{◌≡◌, refl, sym, ap, ◌∙◌, subst}
 use mathlib.Core.Bool.{Bool, true, false, cond, not, ◌&&◌, ◌||◌}
 use mathlib.Core.List.{List}
@@ -12,6 +12,10 @@ use mir.Syntax.{w8}
 use mir.Val.{SFits, to_z, of_z}
 use mir.Facts.{to_z-of_z}
 use borrow.Author.Tests.{eq-eqb, ne_eqb, lt-ltb, ltb-true, leb-true, leb-false}
+use Rattle.std.specs.Ordering.{int_eq}
+use Rattle.std.specs.Cmp.Rules.{signed_items}
+use Rattle.std.proofs.lemmas.Bool.Decides.{same_from_decides}
+use lib.Pointwise.{pointwise}
 use Rattle.rules.specs.Values.{number, places}
 use Rattle.rules.specs.Numbers.{row_bound, any_below, first, given, bytes_answer}
 use Rattle.rules.specs.Rows.{digit, row_sum, rowless, recode_refusal, same_digit, same_row, no_scalar}
@@ -24,41 +28,10 @@ use Rattle.reader.specs.Readers.{shape_refusal, compared_rows}
 use Rattle.reader.specs.Sums.{SaysBytes}
 use Rattle.reader.proofs.Fronts.{shape-passed, read_refusal, read_none, read_found}
 
--- ---- digits are the same where their bits are
+-- ---- rows are the same where `==` finds them equal
 
-pub same_bits : (x y : ℤ) → SFits w8 x → SFits w8 y → eqb (of_z w8 x) (of_z w8 y) ≡ same_digit x y
-same_bits x y f g = go (ℤ_discrete x y)
-  where
-    go : Dec (x ≡ y) → eqb (of_z w8 x) (of_z w8 y) ≡ same_digit x y
-    go (yes e) = eq-eqb (of_z w8 x) (of_z w8 y) (ap (of_z w8) e) ∙ sym ((same-digit x y).1 e)
-    go (no n) =
-        ne_eqb (of_z w8 x) (of_z w8 y) (λ e. n (sym (to_z-of_z f) ∙ ap (to_z w8) e ∙ to_z-of_z g))
-        ∙ sym (not-true (same_digit x y) (λ e. n ((same-digit x y).0 e)))
-      where
-        not-true : (b : Bool) → (b ≡ true → ⊥) → b ≡ false
-        not-true true h = absurd (h refl)
-        not-true false h = refl
-
--- ---- rows compared place by place
-
-module _ (a b : List ℤ) where
-  -- where they differ
-  abbrev pub differ_at : ℕ → Bool
-  differ_at j = not (same_digit (digit a j) (digit b j))
-
-  pub unequal : (length a ≡ length b → ⊥) → false ≡ same_row a b
-  unequal h = go (same_row a b) refl
-    where
-      go : (t : Bool) → same_row a b ≡ t → false ≡ t
-      go true e = absurd (h (ap length ((same_row_lem a b).0 e)))
-      go false e = refl
-
-  module _ (e : length a ≡ length b) (i : ℕ) where
-    pub differ : i < length a → same_digit (digit a i) (digit b i) ≡ false → false ≡ same_row a b
-    differ l f = sym (same-row-search a b (length a) refl (sym e) ∙ ap not (any_at differ_at (length a) i l (rw f refl)))
-
-    pub agree : i ≤ length a → length a ≤ i → any_below differ_at i ≡ false → true ≡ same_row a b
-    agree l g f = sym (same-row-search a b (length a) refl (sym e) ∙ ap not (sym (any-end differ_at (length a) i l g f)))
+pub same-rows : (a b : List ℤ) → pointwise int_eq a b ≡ same_row a b
+same-rows a b = same_from_decides _ _ (signed_items a b) (same_row_lem a b)
 
 -- ---- what was read is the scalar that has the row, where one has it
 

@@ -3,14 +3,27 @@
 
 ghost use Rattle.std.specs.Prelude.{◌≡◌, ◌+◌, ◌-◌, ◌*◌, ◌^◌};
 ghost use Rattle.rules.specs.Values.{value_of, element_of};
-ghost use Rattle.rules.specs.Numbers.{bytes_answer};
-ghost use Rattle.rules.specs.Rows.{same_digit, same_row, read_naf, read_radix};
+ghost use Rattle.rules.specs.Numbers.{as_number};
+ghost use Rattle.rules.specs.Results.{as_row, as_scalar_bytes};
+ghost use Rattle.rules.specs.Rows.{read_naf, read_radix};
 ghost use Rattle.laws.specs.DigitsSum.{plus, minus};
 ghost use Rattle.reader.specs.Readers.{shape_refusal, compared_rows};
 ghost use Rattle.reader.specs.Sums.{Whole, Says, SaysBytes};
 
 use digit::magnitude;
-use rules::{Element, ScalarBytes};
+use rules::{Element, Refusal};
+
+// A number of one limb.
+fn limbs_of(n: u64) -> Element
+    ensures { result ≡ record { l0 = n; l1 = 0; l2 = 0; l3 = 0 } }
+{
+    Element {
+        l0: n,
+        l1: 0,
+        l2: 0,
+        l3: 0,
+    }
+}
 
 // A number doubled w times, modulo 2^256.
 fn doubled(q: Element, w: usize) -> Element
@@ -19,8 +32,7 @@ fn doubled(q: Element, w: usize) -> Element
 {
     let mut r = q;
     for _ in 0..w {
-        let twice = limbs::sum(r, r);
-        r = twice.element;
+        r = limbs::sum(r, r).element;
     }
     r
 }
@@ -29,18 +41,11 @@ fn doubled(q: Element, w: usize) -> Element
 fn with_digit(q: Element, d: i8) -> Element
     ensures { result ≡ element_of (value_of q + 2 ^ 256 + plus d - minus d) }
 {
-    let x = Element {
-        l0: magnitude(d) as u64,
-        l1: 0,
-        l2: 0,
-        l3: 0,
-    };
+    let x = limbs_of(magnitude(d) as u64);
     if d < 0 {
-        let less = limbs::difference(q, x);
-        less.element
+        limbs::difference(q, x).element
     } else {
-        let more = limbs::sum(q, x);
-        more.element
+        limbs::sum(q, x).element
     }
 }
 
@@ -48,15 +53,8 @@ fn with_digit(q: Element, d: i8) -> Element
 fn row_sum(row: &[i8], w: usize) -> Element
     ensures { Says w row.now result }
 {
-    let mut q = Element {
-        l0: 0,
-        l1: 0,
-        l2: 0,
-        l3: 0,
-    };
-    let mut i = row.len();
-    while 0 < i {
-        i -= 1;
+    let mut q = limbs_of(0);
+    for i in (0..row.len()).rev() {
         q = with_digit(doubled(q, w), row[i]);
     }
     q
@@ -70,91 +68,53 @@ fn row_bytes(row: &[i8], w: usize) -> [u8; 32]
     words::bytes(&limbs)
 }
 
-// Whether two digits are the same.
-fn same_digit(x: i8, y: i8) -> bool
-    ensures { result ≡ same_digit x y }
-{
-    x == y
-}
-
-// Whether two rows are the same.
-fn same_row(a: &[i8], b: &[i8]) -> bool
-    ensures { result ≡ same_row a.now b.now }
-{
-    if a.len() != b.len() {
-        return false;
-    }
-    let mut i: usize = 0;
-    while i < a.len() {
-        if !same_digit(a[i], b[i]) {
-            return false;
-        }
-        i += 1;
-    }
-    true
-}
-
-// A refused reading.
-fn refused(n: u8) -> ScalarBytes
-    ensures { result ≡ bytes_answer n 0 }
-{
-    let bytes = [0u8; 32];
-    ScalarBytes { number: n, bytes }
-}
-
 // What a row of the wrong length or at the wrong width is answered.
-fn shape_refusal(row: &[i8], long: usize, low: usize, w: usize) -> u8
-    ensures { result ≡ shape_refusal long low row.now w }
+fn shape_refusal(row: &[i8], long: usize, low: usize, w: usize) -> Result<(), Refusal>
+    ensures { as_number result ≡ shape_refusal long low row.now w }
 {
     if row.len() != long {
-        return 1;
+        return Err(Refusal::NotWhole);
     }
     if w < low {
-        return 3;
+        return Err(Refusal::BadWidth);
     }
     if 8 < w {
-        return 3;
+        return Err(Refusal::BadWidth);
     }
-    0
+    Ok(())
 }
 
 // The bytes that a row sums to, where they are recoded and their row, again, is that row.
-fn compared(row: &[i8], number: u8, again: &[i8], bytes: [u8; 32]) -> ScalarBytes
-    ensures { result ≡ compared_rows row.now number again.now bytes }
+fn compared<const N: usize>(
+    row: &[i8],
+    again: Result<[i8; N], Refusal>,
+    bytes: [u8; 32],
+) -> Result<[u8; 32], Refusal>
+    ensures { as_scalar_bytes result ≡ compared_rows row.now (as_row N again.entry).number (as_row N again.entry).row bytes }
 {
-    if number != 0 {
-        return refused(10);
+    let Ok(recoded) = again else {
+        return Err(Refusal::BadDigit);
+    };
+    if recoded.as_slice() != row {
+        return Err(Refusal::BadDigit);
     }
-    if !same_row(again, row) {
-        return refused(10);
-    }
-    ScalarBytes { number, bytes }
+    Ok(bytes)
 }
 
 // The scalar below 2^255 that has a NAF row of width w.
-pub fn read_naf(row: &[i8], w: usize) -> ScalarBytes
-    ensures { result ≡ read_naf row.now w }
+pub fn read_naf(row: &[i8], w: usize) -> Result<[u8; 32], Refusal>
+    ensures { as_scalar_bytes result ≡ read_naf row.now w }
 {
-    let number = shape_refusal(row, 256, 2, w);
-    if number != 0 {
-        return refused(number);
-    }
+    shape_refusal(row, 256, 2, w)?;
     let bytes = row_bytes(row, 1);
-    let naf = scalar::non_adjacent_form(&bytes, w);
-    let again = naf.row;
-    compared(row, naf.number, &again, bytes)
+    compared(row, scalar::non_adjacent_form(&bytes, w), bytes)
 }
 
 // The scalar below 2^255 that has a radix 2^w row.
-pub fn read_radix(row: &[i8], w: usize) -> ScalarBytes
-    ensures { result ≡ read_radix row.now w }
+pub fn read_radix(row: &[i8], w: usize) -> Result<[u8; 32], Refusal>
+    ensures { as_scalar_bytes result ≡ read_radix row.now w }
 {
-    let number = shape_refusal(row, 64, 4, w);
-    if number != 0 {
-        return refused(number);
-    }
+    shape_refusal(row, 64, 4, w)?;
     let bytes = row_bytes(row, w);
-    let radix = radix::as_radix_2w(&bytes, w);
-    let again = radix.row;
-    compared(row, radix.number, &again, bytes)
+    compared(row, radix::as_radix_2w(&bytes, w), bytes)
 }

@@ -3,10 +3,10 @@ use Rattle.std.specs.Prelude.{◌≡◌, Bool, true, false, List, [], ◌∷◌,
 use Rattle.rules.specs.declared.Value.{Value}
 use Rattle.rules.specs.declared.Counted.{Counted}
 use Rattle.rules.specs.declared.Sum.{Sum}
-use Rattle.rules.specs.Answers.{NafRow, RadixRow, ScalarBytes, Window8, Window64}
+use Rattle.rules.specs.Answers.{RowAnswer, ScalarBytes, Window8, Window64}
 use Rattle.rules.specs.Values.{limb, places}
 use Rattle.rules.specs.Group.{L}
-use Rattle.rules.specs.Numbers.{condition, counted}
+use Rattle.rules.specs.Numbers.{condition, counted, NafRow, RadixRow}
 use Rattle.rules.specs.Lists.{scalar_count}
 use Rattle.rules.specs.Engines.{products, After, AfterNew}
 use Rattle.rules.specs.Batch.{Memory, AfterEdit, Pairs, Edit, apply, prepare, number_by, edited}
@@ -27,11 +27,14 @@ abbrev pub a_sum : Kind Sum
 a_sum = record { number = λ r. r.number; zeros = λ n. record { number = n; value = 0 ∷ 0 ∷ 0 ∷ 0 ∷ []; additions = 0; doublings = 0 } }
 
 -- rows, bytes or windows of zeros
+abbrev pub a_row : (N : ℕ) → Kind (RowAnswer N)
+a_row N = record { number = λ r. r.number; zeros = λ n. record { number = n; row = replicate N (pos 0) } }
+
 abbrev pub a_naf_row : Kind NafRow
-a_naf_row = record { number = λ r. r.number; zeros = λ n. record { number = n; row = replicate 256 (pos 0) } }
+a_naf_row = a_row 256
 
 abbrev pub a_radix_row : Kind RadixRow
-a_radix_row = record { number = λ r. r.number; zeros = λ n. record { number = n; row = replicate 64 (pos 0) } }
+a_radix_row = a_row 64
 
 abbrev pub a_scalar : Kind ScalarBytes
 a_scalar = record { number = λ r. r.number; zeros = λ n. record { number = n; bytes = replicate 32 0 } }

@@ -7,7 +7,7 @@ use Rattle.rules.specs.declared.Walk.{Walk}
 use Rattle.rules.specs.declared.Value.{Value}
 use Rattle.rules.specs.declared.Counted.{Counted}
 use Rattle.rules.specs.declared.Sum.{Sum}
-use Rattle.rules.specs.Answers.{NafRow, RadixRow, ScalarBytes, Window8, Window64}
+use Rattle.rules.specs.Answers.{RowAnswer, ScalarBytes, Window8, Window64}
 use Rattle.rules.specs.Numbers.{done, number_of, valued, counted, summed}
 use Rattle.rules.specs.Helpers.{value_done, counted_done, sum_done}
 
@@ -25,13 +25,9 @@ as_sum (Ok w) = sum_done w.element w.additions w.doublings
 as_sum (Err r) = summed (number_of r) 0 0 0
 
 -- a row, the bytes of a scalar, a window
-unfoldable pub as_naf_row : Result (List ℤ) Refusal → NafRow
-as_naf_row (Ok l) = record { number = done; row = l }
-as_naf_row (Err r) = record { number = number_of r; row = replicate 256 (pos 0) }
-
-unfoldable pub as_radix_row : Result (List ℤ) Refusal → RadixRow
-as_radix_row (Ok l) = record { number = done; row = l }
-as_radix_row (Err r) = record { number = number_of r; row = replicate 64 (pos 0) }
+unfoldable pub as_row : (N : ℕ) → Result (List ℤ) Refusal → RowAnswer N
+as_row N (Ok l) = record { number = done; row = l }
+as_row N (Err r) = record { number = number_of r; row = replicate N (pos 0) }
 
 unfoldable pub as_scalar_bytes : Result (List ℕ) Refusal → ScalarBytes
 as_scalar_bytes (Ok l) = record { number = done; bytes = l }

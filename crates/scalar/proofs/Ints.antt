@@ -6,26 +6,6 @@ use mir.Facts.{to_z_pos, to_z-neg, sfits_widen}
 use Rattle.laws.specs.Digits.{carry, near}
 use Rattle.scalar.specs.Wrap.{wrapped}
 
--- ---- a byte from 128 on, read as signed by way of sixteen bits
-
-module _ (m : ℕ) (lt : m < 256) (ge : 128 ≤ m) where
-  down : to_z w16 m -ℤ pos 256 ≡ negsuc (255 - m)
-  down = ap (λ x. x -ℤ pos 256) (to_z_pos w16 {n = m} (omega arith)) ∙ rw (lt-ltb m 256 lt) (ap negsuc (omega arith))
-
-  down8 : SFits w8 (to_z w16 m -ℤ pos 256)
-  down8 = rw down (record { sfits = omega arith })
-
-  pub down16 : SFits w16 (to_z w16 m -ℤ pos 256)
-  down16 = sfits_widen tt down8
-
-  pub down_fits : SFits w8 (to_z w16 (of_z w16 (to_z w16 m -ℤ pos 256)))
-  down_fits = rw (to_z-of_z down16) down8
-
-  pub read-high : to_z w8 (of_z w8 (to_z w16 (of_z w16 (to_z w16 m -ℤ pos 256)))) ≡ to_z w8 m
-  read-high =
-      let e : 256 - suc (255 - m) ≡ m = omega arith in
-      to_z-of_z down_fits ∙ to_z-of_z down16 ∙ down ∙ sym (to_z-neg w8 (255 - m) (omega arith)) ∙ ap (to_z w8) e
-
 -- ---- a difference that eight bits hold is what wraps
 
 wrapped-is : (v c : ℕ) → v < 512 → c ≤ v + 128 → v < c + 128 → wrapped v c ≡ sub_ℕ v c

@@ -3,21 +3,19 @@
 
 ghost use Rattle.std.specs.Prelude.{◌≡◌, ◌≤◌, take};
 ghost use Rattle.rules.specs.Values.{number};
+ghost use Rattle.rules.specs.Results.{as_row};
 ghost use Rattle.rules.specs.Rows.{naf_of, naf_row, naf_row_of};
 ghost use Rattle.scalar.specs.Wrap.{wrapped};
 
-use rules::NafRow;
+use rules::Refusal;
 
 // A window narrowed to eight bits with wrap, less the width narrowed to eight bits with wrap.
+#[tactic(auto, unfolding(crate::specs::Wrap::wrapped))]
 fn wrapping_digit(window: u64, width: u64) -> i8
     ensures { result ≡ wrapped window width }
 {
-    let d = std::num::wrapping_sub_u8((window % 256) as u8, (width % 256) as u8);
-    if d < 128 {
-        d as i8
-    } else {
-        ((d as i16) - 256) as i8
-    }
+    let narrowed = (window % 256) as u8;
+    narrowed.wrapping_sub((width % 256) as u8).cast_signed()
 }
 
 // The digits of the non-adjacent form of width w.
@@ -49,27 +47,20 @@ fn naf_digits(scalar: &[u8], w: usize) -> [i8; 256]
 }
 
 // The NAF row of the first 32 bytes for the engines, zeros at a width outside 2 to 8.
+#[tactic(auto, unfolding(rules::specs::Rows::naf_row_of, rules::specs::Rows::width_off))]
 pub fn naf_row(scalar: &[u8], w: usize) -> [i8; 256]
     ensures { result ≡ naf_row_of scalar.now w }
 {
-    if w < 2 {
-        return [0i8; 256];
+    match w {
+        2..=8 => naf_digits(scalar, w),
+        _ => [0; 256],
     }
-    if 8 < w {
-        return [0i8; 256];
-    }
-    naf_digits(scalar, w)
 }
 
 // The NAF row of a scalar, width w.
-pub fn non_adjacent_form(scalar: &[u8], w: usize) -> NafRow
-    ensures { result ≡ naf_of scalar.now w }
+pub fn non_adjacent_form(scalar: &[u8], w: usize) -> Result<[i8; 256], Refusal>
+    ensures { as_row 256 result ≡ naf_of scalar.now w }
 {
-    let number = bits::recode_refusal(scalar, 2, w);
-    if number != 0 {
-        let row = [0i8; 256];
-        return NafRow { number, row };
-    }
-    let row = naf_row(scalar, w);
-    NafRow { number, row }
+    bits::recode_refusal(scalar, 2, w)?;
+    Ok(naf_row(scalar, w))
 }

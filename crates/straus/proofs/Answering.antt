@@ -10,9 +10,9 @@ use Rattle.rules.specs.declared.Walk.{Walk}
 use Rattle.rules.specs.declared.Sum.{Sum}
 use Rattle.rules.specs.Engines.{After, radix_straus_refusal, radix_straus, naf_straus_refusal, naf_straus}
 use Rattle.rules.specs.Results.{as_sum}
-use Rattle.laws.specs.Refused.{Refused, refused-not-0}
+use Rattle.laws.specs.Results.{Refused, refused-not-0}
 use Rattle.laws.proofs.Room.{room-refused}
-use Rattle.answer.proofs.Answers.{refused-sum}
+use Rattle.laws.specs.Results.{refused-sum}
 
 pub after : {r s : Sum} {d e : List ℤ} {l k : List ℕ} → r ≡ s → d ≡ e → l ≡ k → ◌≡◌ {A = After} (record { result = r; digits = d; limbs = l }) (record { result = s; digits = e; limbs = k })
 after p q t = cc

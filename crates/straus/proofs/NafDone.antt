@@ -28,7 +28,7 @@ use Rattle.laws.specs.RadixRows.{scalar-has-row}
 use Rattle.laws.proofs.Room.{room-done}
 use Rattle.laws.proofs.Laid.{laid-front, laid-cleared}
 use Rattle.lent.proofs.Passed.{pairs-points}
-use Rattle.answer.proofs.Answers.{done-sum}
+use Rattle.limbs.proofs.Done.{done-sum}
 use Rattle.window.proofs.Flat.{limbs-length}
 use Rattle.laying.proofs.Built.{naf-laid, odd8-laid}
 use Rattle.columns.proofs.Walked.{took}

@@ -24,7 +24,7 @@ use Rattle.laws.proofs.Room.{room-done}
 use Rattle.laws.proofs.Laid.{laid-part, laid-cleared}
 use Rattle.laws.specs.RadixRows.{radix-length}
 use Rattle.lent.proofs.Passed.{pairs-points}
-use Rattle.answer.proofs.Answers.{done-sum}
+use Rattle.limbs.proofs.Done.{done-sum}
 use Rattle.window.proofs.Flat.{elements-length}
 use Rattle.lookup.proofs.RadixSums.{radix16-walked}
 use Rattle.laying.proofs.Built.{radix-laid, successive-laid}

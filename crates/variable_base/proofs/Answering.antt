@@ -18,7 +18,7 @@ use Rattle.rules.specs.Windows.{successive}
 use Rattle.rules.specs.Engines.{single_refusal, single}
 use Rattle.rules.specs.Helpers.{sum_done, elements_flat, Made, made_successive}
 use Rattle.laws.specs.Conditions.{or_split, first-none}
-use Rattle.answer.proofs.Answers.{done-sum}
+use Rattle.limbs.proofs.Done.{done-sum}
 use Rattle.laws.proofs.Puts.{put_same}
 use Rattle.lent.proofs.Passed.{long-told, small, under}
 use Rattle.window.proofs.Flat.{elements-length}

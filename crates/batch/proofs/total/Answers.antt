@@ -1,7 +1,7 @@
 -- Refused by its number, else what the walk over all slots leaves.
 use mathlib.Core.Path.{refl, sym, ◌∙◌}
 use Rattle.rules.specs.Batch.{total_of}
-use Rattle.answer.proofs.Answers.{refused-sum}
+use Rattle.laws.specs.Results.{refused-sum}
 use Rattle.batch.proofs.Batches.{total-is}
 use Rattle.batch.proofs.total.Goals as goal
 

@@ -1,8 +1,8 @@
 -- Refused, or the sum of two members.
 use Rattle.std.proofs.lemmas.Result.{err_from_is_err_and}
 use Rattle.rules.specs.Calls.{group_add}
-use Rattle.laws.specs.Refused.{passed-as-0, handed-on}
-use Rattle.answer.proofs.Answers.{refused-value}
+use Rattle.laws.specs.Results.{passed-as-0, handed-on}
+use Rattle.laws.specs.Results.{refused-value}
 use Rattle.group.proofs.Answers.{sum-answer}
 use Rattle.group.proofs.add.Goals as goal
 

@@ -4,7 +4,8 @@ use lib.IntN.{nat_abs}
 use Rattle.rules.specs.Windows.{select}
 use Rattle.rules.specs.Helpers.{looked_up}
 use Rattle.digit.proofs.Machine.{back8}
-use Rattle.answer.proofs.Answers.{refused-value, done-value}
+use Rattle.laws.specs.Results.{refused-value}
+use Rattle.limbs.proofs.Done.{done-value}
 use Rattle.lookup.proofs.Lookups.{number, found}
 use Rattle.lookup.proofs.select.Goals as goal
 

@@ -6,7 +6,8 @@ use Rattle.rules.specs.Group.{elements}
 use Rattle.rules.specs.Loops.{odd_entry}
 use Rattle.rules.specs.Windows.{select_naf}
 use Rattle.digit.proofs.Machine.{back8}
-use Rattle.answer.proofs.Answers.{refused-value, done-value}
+use Rattle.laws.specs.Results.{refused-value}
+use Rattle.limbs.proofs.Done.{done-value}
 use Rattle.lookup.proofs.Lookups.{by_sign, number-odd, found-odd}
 use Rattle.lookup.proofs.select_naf.Goals as goal
 

@@ -8,5 +8,5 @@ use Rattle.reader.proofs.doubled.Goals as goal
 pub loop-preserved : goal.loop-preserved
 loop-preserved c = (
   omega (arith, c.loop-test.true),
-  ap (λ (x : Carried). x.element) c.sum-twice.ensures ∙ unfold carried_sum in double-more _ _ _ c.loop.invariant.1,
+  ap (λ (x : Carried). x.element) c.sum.ensures ∙ unfold carried_sum in double-more _ _ _ c.loop.invariant.1,
 )

@@ -1,7 +1,7 @@
 -- Refused by its number, else rows, windows and the walk; then the room is cleared.
 use mathlib.Core.Path.{sym, ◌∙◌}
 use native.Mathlib.Omega.{arith}
-use Rattle.laws.specs.Refused.{passed-as-0, handed-on}
+use Rattle.laws.specs.Results.{passed-as-0, handed-on}
 use Rattle.std.proofs.lemmas.Result.{err_from_is_err_and}
 use Rattle.straus.proofs.Answering.{radix-refused}
 use Rattle.straus.proofs.RadixDone.{radix-ok, radix-counts, radix-done}

@@ -4,7 +4,7 @@ use Prim.Native.Nat.{◌*◌, ◌≤◌}
 use native.Mathlib.Omega.{arith}
 use lib.ListN.{length}
 use lib.Seq.{length-take-le}
-use Rattle.laws.specs.Refused.{passed-as-0, handed-on}
+use Rattle.laws.specs.Results.{passed-as-0, handed-on}
 use Rattle.std.proofs.lemmas.Result.{err_from_is_err_and}
 use Rattle.straus.proofs.Answering.{naf-refused}
 use Rattle.straus.proofs.NafDone.{naf-ok, naf-counts, naf-done}

@@ -2,7 +2,7 @@
 use mathlib.Core.Path.{refl, sym, ◌∙◌}
 use native.Mathlib.Omega.{arith}
 use Rattle.rules.specs.Engines.{single}
-use Rattle.answer.proofs.Answers.{refused-sum}
+use Rattle.laws.specs.Results.{refused-sum}
 use Rattle.variable_base.proofs.Answering.{counts-are, answered}
 use Rattle.variable_base.proofs.mul.Goals as goal
 

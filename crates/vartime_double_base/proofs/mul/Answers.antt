@@ -2,7 +2,8 @@
 use mathlib.Core.Path.{◌≡◌, refl, sym, ◌∙◌}
 use native.Mathlib.Omega.{arith}
 use Rattle.rules.specs.Engines.{double_refusal, double}
-use Rattle.answer.proofs.Answers.{refused-sum, done-sum}
+use Rattle.laws.specs.Results.{refused-sum}
+use Rattle.limbs.proofs.Done.{done-sum}
 use Rattle.vartime_double_base.proofs.Search.{start-inside}
 use Rattle.vartime_double_base.proofs.DoneSum.{Done, sum_done_lem}
 use Rattle.vartime_double_base.proofs.mul.Goals as goal

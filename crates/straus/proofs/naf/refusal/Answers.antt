@@ -3,7 +3,7 @@ use mathlib.Core.Path.{ap}
 use Prim.Native.Nat.{◌*◌, ◌≤◌}
 use native.Mathlib.Omega.{arith}
 use Rattle.std.proofs.lemmas.Result.{err_from_is_err_and}
-use Rattle.laws.specs.Refused.{passed-as-0, handed-on}
+use Rattle.laws.specs.Results.{passed-as-0, handed-on}
 use Rattle.rules.specs.Numbers.{most}
 use Rattle.rules.specs.Engines.{naf_straus_refusal}
 use Rattle.laws.specs.Conditions.{joined-here, joined-next}
