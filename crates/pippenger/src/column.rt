@@ -10,7 +10,14 @@ ghost use Rattle.laws.specs.Cells.{digit_at, Placed};
 ghost use Rattle.laws.specs.BucketWalk.{ColumnMade};
 ghost use Rattle.pippenger.specs.Flat.{replaced, put_flat, put_rows};
 
-use rules::{Element, Walk};
+use rules::Element;
+
+// A sum, and the additions made for it.
+#[derive(Clone, Copy)]
+pub(crate) struct Summed {
+    pub(crate) element: Element,
+    pub(crate) additions: u64,
+}
 
 // An element into its four limbs.
 fn store(limbs: &mut [u64], k: usize, e: Element)
@@ -18,10 +25,7 @@ fn store(limbs: &mut [u64], k: usize, e: Element)
     ensures { limbs.new ≡ replaced limbs.old k e }
 {
     let a = 4 * k;
-    limbs[a] = e.l0;
-    limbs[a + 1] = e.l1;
-    limbs[a + 2] = e.l2;
-    limbs[a + 3] = e.l3;
+    limbs[a..a + 4].copy_from_slice(&flat::array(e));
 }
 
 // A point into bucket |d| - 1 by its row's digit d at place j: added, or taken away where d is negative. Additions made.
@@ -49,27 +53,23 @@ fn put_all(digits: &[i8], points: &[u64], m: usize, j: usize, buckets: &mut [u64
     ensures { (result ≡ column_weight (digit_at digits.now) m j) × (buckets.new ≡ put_rows digits.now points.now j m buckets.old) }
 {
     let mut additions: u64 = 0;
-    let mut i: usize = 0;
-    while i < m {
+    for i in 0..m {
         let a = 64 * i;
         let e = a + 64;
         additions += put(&digits[a..e], j, flat::element_at(points, i), &mut *buckets);
-        i += 1;
     }
     additions
 }
 
 // The buckets, each as often as its number says: the sum of the running sums from the last bucket down.
-fn sum_buckets(buckets: &[u64], n: usize) -> Walk
+fn sum_buckets(buckets: &[u64], n: usize) -> Summed
     requires { (1 < n) × (4 * n ≤ length buckets.now) }
-    ensures { (result.element ≡ bucket_sum elements (element_at buckets.now) (n - 1)) × ((result.additions ≡ 2 * (n - 1)) × (result.doublings ≡ 0)) }
+    ensures { (result.element ≡ bucket_sum elements (element_at buckets.now) (n - 1)) × (result.additions ≡ 2 * (n - 1)) }
 {
     let mut buckets_intermediate_sum = flat::element_at(buckets, n - 1);
     let mut buckets_sum = buckets_intermediate_sum;
     let mut additions: u64 = 0;
-    let mut i = n - 1;
-    while 0 < i {
-        i -= 1;
+    for i in (0..n - 1).rev() {
         buckets_intermediate_sum = residue::plus(
             buckets_intermediate_sum,
             flat::element_at(buckets, i),
@@ -77,10 +77,9 @@ fn sum_buckets(buckets: &[u64], n: usize) -> Walk
         buckets_sum = residue::plus(buckets_sum, buckets_intermediate_sum);
         additions += 2;
     }
-    Walk {
+    Summed {
         element: buckets_sum,
         additions,
-        doublings: 0,
     }
 }
 
@@ -92,17 +91,15 @@ pub(crate) fn column(
     j: usize,
     n: usize,
     buckets: &mut [u64],
-) -> Walk
+) -> Summed
     requires { Placed 4 digits.now m j (4 * n) × ((1 < n) × (4 * n ≤ length buckets.old)) }
     ensures { ColumnMade elements 4 digits.now (element_at points.now) m j n buckets.old buckets.new result.element result.additions }
 {
     room::clear_limbs(&mut *buckets, 4 * n);
     let put = put_all(digits, points, m, j, &mut *buckets);
     let s = sum_buckets(buckets, n);
-    let element = s.element;
-    Walk {
-        element,
+    Summed {
+        element: s.element,
         additions: put + s.additions,
-        doublings: 0,
     }
 }

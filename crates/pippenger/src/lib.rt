@@ -11,15 +11,14 @@ mod column;
 mod walk;
 
 // The digits' width by the number of scalars, before the points are looked at.
+#[tactic(auto, unfolding(rules::specs::Engines::bucket_width))]
 fn width(scalars: usize) -> usize
     ensures { result ≡ bucket_width scalars }
 {
-    if scalars < 500 {
-        6
-    } else if scalars < 800 {
-        7
-    } else {
-        8
+    match scalars {
+        ..500 => 6,
+        500..800 => 7,
+        _ => 8,
     }
 }
 

@@ -26,9 +26,7 @@ pub(crate) fn walk(digits: &[i8], points: &[u64], m: usize, w: usize, buckets: &
     let mut q = hi_column.element;
     let mut additions = hi_column.additions;
     let mut doublings: u64 = 0;
-    let mut j = c - 1;
-    while 0 < j {
-        j -= 1;
+    for j in (0..c - 1).rev() {
         let col = column(digits, points, m, j, n, &mut *buckets);
         let p = col.element;
         q = residue::plus(residue::mul_by_pow_2(q, w), p);

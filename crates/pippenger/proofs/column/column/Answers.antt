@@ -12,12 +12,12 @@ use Rattle.pippenger.proofs.column.column.Goals as goal
 
 pub overflow_add-result : goal.overflow_add-result
 overflow_add-result c =
-    omega (arith, c.put_all-put.ensures.0, column-le (digit_at c.args.digits.now) c.args.m c.args.j, c.requires.0.rows, c.sum_buckets-s.ensures.1.0)
+    omega (arith, c.put_all-put.ensures.0, column-le (digit_at c.args.digits.now) c.args.m c.args.j, c.requires.0.rows, c.sum_buckets-s.ensures.1)
 
 pub returns : goal.returns
 returns c =
     record {
       element = column-is elements element_at replaced 4 cells _ c.args.n c.args.buckets.now _ c.requires.0 c.requires.1.1 (emptied-long _ _ c.clear_limbs.ensures) (emptied _ _ c.clear_limbs.ensures) c.requires.1.0 c.put_all-put.ensures.1 c.sum_buckets-s.ensures.0;
-      additions = ap₂ (λ (x y : ℕ). x + y) c.put_all-put.ensures.0 c.sum_buckets-s.ensures.1.0;
+      additions = ap₂ (λ (x y : ℕ). x + y) c.put_all-put.ensures.0 c.sum_buckets-s.ensures.1;
       kept = column-cleared elements element_at replaced 4 cells _ c.args.n c.args.buckets.now _ c.requires.0 c.requires.1.1 (emptied-long _ _ c.clear_limbs.ensures) (emptied-kept _ _ c.clear_limbs.ensures) c.put_all-put.ensures.1;
     }

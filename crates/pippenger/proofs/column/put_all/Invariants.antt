@@ -10,6 +10,3 @@ use Rattle.pippenger.proofs.column.put_all.Given as goal
 abbrev pub invariant-loop-i : goal.invariant-loop-i
 invariant-loop-i l =
     (l.i ≤ l.m) × (length l.buckets ≡ length l.initial.buckets) × ((l.additions ≡ column_weight (digit_at l.digits) l.i l.j) × (l.buckets ≡ put_rows l.digits l.points l.j l.i l.initial.buckets))
-
-abbrev pub decreases-loop-i : goal.decreases-loop-i
-decreases-loop-i l = l.m - l.i

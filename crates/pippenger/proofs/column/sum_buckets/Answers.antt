@@ -1,4 +1,3 @@
-use mathlib.Core.Path.{refl}
 use native.Mathlib.Omega.{arith}
 use Rattle.rules.specs.Values.{element_at}
 use Rattle.rules.specs.Group.{elements}
@@ -13,4 +12,4 @@ loop-i-preserved c =
     (omega arith, omega arith, ran-turn elements (element_at c.args.buckets.now) _ _ _ c.loop-i-test.true c.element_at.ensures c.plus-buckets_intermediate_sum.ensures c.plus-buckets_sum.ensures c.loop-i.invariant.2)
 
 pub returns : goal.returns
-returns c = (ran-end elements (element_at c.args.buckets.now) c.loop-i.i c.loop-i.buckets_intermediate_sum (omega arith) c.loop-i.invariant.2, (omega arith, refl))
+returns c = (ran-end elements (element_at c.args.buckets.now) c.loop-i.i c.loop-i.buckets_intermediate_sum (omega arith) c.loop-i.invariant.2, omega arith)

@@ -10,6 +10,3 @@ use Rattle.pippenger.proofs.column.sum_buckets.Given as goal
 abbrev pub invariant-loop-i : goal.invariant-loop-i
 invariant-loop-i l =
     (l.i ≤ l.n - 1) × (l.additions + 2 * l.i ≡ 2 * (l.n - 1)) × ((down (ran elements (element_at l.buckets)) l.i (l.buckets_intermediate_sum, l.buckets_sum)).1 ≡ bucket_sum elements (element_at l.buckets) (l.n - 1))
-
-abbrev pub decreases-loop-i : goal.decreases-loop-i
-decreases-loop-i l = l.i

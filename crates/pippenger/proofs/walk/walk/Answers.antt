@@ -26,8 +26,8 @@ pub column-hi_column-requires : goal.column-hi_column-requires
 column-hi_column-requires c =
     column-asked c.requires c.buckets_count-n.ensures (omega (arith, c.to_radix_2w_size_hint-c.ensures, (wide c.args.w c.requires.low c.requires.high).some)) c.args.buckets.now refl
 
-pub overflow_sub-j : goal.overflow_sub-j
-overflow_sub-j c = omega (arith, c.to_radix_2w_size_hint-c.ensures, (wide c.args.w c.requires.low c.requires.high).some)
+pub overflow_step-j : goal.overflow_step-j
+overflow_step-j c = omega (arith, c.to_radix_2w_size_hint-c.ensures, (wide c.args.w c.requires.low c.requires.high).some)
 
 pub loop-j-init : goal.loop-j-init
 loop-j-init c =

@@ -7,6 +7,3 @@ use Rattle.pippenger.proofs.walk.walk.Given as goal
 abbrev pub invariant-loop-j : goal.invariant-loop-j
 invariant-loop-j l =
     Going elements 4 l.digits (element_at l.points) l.m l.w l.fn.buckets l.j l.buckets l.q l.additions l.doublings
-
-abbrev pub decreases-loop-j : goal.decreases-loop-j
-decreases-loop-j l = l.j
