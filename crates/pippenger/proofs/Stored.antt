@@ -1,31 +1,17 @@
 -- Elements of four limbs in flat limbs: what storing one does, and that cleared limbs hold the identity.
-use mathlib.Core.Path.{◌≡◌, refl, sym, ap, ◌∙◌}
-use mathlib.Core.List.{List, [], ◌∷◌, ◌++◌}
-use Prim.Native.Nat.{ℕ, zero, suc, ◌+◌, ◌-◌, ◌*◌, ◌<◌, ◌≤◌}
-use native.Mathlib.Numerals.{unary_clauses}
+use mathlib.Core.Path.{◌≡◌, refl, ap, ◌∙◌}
+use mathlib.Core.List.{List, [], ◌∷◌}
+use Prim.Native.Nat.{ℕ, zero, suc, ◌+◌, ◌*◌, ◌<◌, ◌≤◌}
 use native.Mathlib.Omega.{arith}
-use lib.ListN.{length, get_or, set, take, drop, length-set}
-use borrow.Rule.Slice.PartMut.{put_mid}
-use Rattle.std.proofs.lemmas.List.{append_assoc, drop-drop}
-use Rattle.std.proofs.lemmas.List.Edits.{sets-eq}
+use lib.ListN.{length, get_or, set, length-set}
 use lib.Seq.{get_or-set_same, get_or-set_other}
 use Rattle.rules.specs.declared.Element.{Element}
-use Rattle.rules.specs.Values.{limbs_of, element_of, element_at}
+use Rattle.rules.specs.Values.{element_of, element_at}
 use Rattle.rules.specs.Numbers.{cleared}
 use Rattle.laws.proofs.Room.{cleared-set, cleared-length, cleared-again}
 use Rattle.limbs.proofs.Elements.{same}
 use Rattle.laws.specs.Cells.{Cells}
 use Rattle.pippenger.specs.Flat.{replaced}
-
--- an element copied over the limbs from its place on
-pub copied : (l : List ℕ) (k : ℕ) (e : Element) {s : List ℕ} → 4 * k + 4 ≤ length l → s ≡ limbs_of e
-    → put_mid (4 * k) (4 * k + 4 - 4 * k) l s ≡ replaced l k e
-unfolding replaced
-copied l k e {s} h es =
-    let n : 4 * k + 4 - 4 * k ≡ 4 = omega arith in
-    let put : put_mid (4 * k) (4 * k + 4 - 4 * k) l s ≡ take (4 * k) l ++ (e.l0 ∷ e.l1 ∷ e.l2 ∷ e.l3 ∷ drop (4 * k + 4) l) =
-        rw (es, n) (ap (λ (t : List ℕ). take (4 * k) l ++ (e.l0 ∷ e.l1 ∷ e.l2 ∷ e.l3 ∷ t)) (drop-drop 4 (4 * k) l)) in
-    put ∙ sym (append_assoc (take (4 * k) l) (e.l0 ∷ e.l1 ∷ e.l2 ∷ e.l3 ∷ []) (drop (4 * k + 4) l)) ∙ sym (sets-eq (e.l0 ∷ e.l1 ∷ e.l2 ∷ e.l3 ∷ []) l (4 * k) h) ∙ simp unary_clauses refl
 
 -- four limbs x y z t stored from place a on
 module _ (l : List ℕ) (a x y z t : ℕ) where

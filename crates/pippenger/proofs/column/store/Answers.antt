@@ -1,7 +1,8 @@
--- Its four limbs copied are those four set.
-use mathlib.Core.Path.{◌∙◌}
-use Rattle.pippenger.proofs.Stored.{copied}
+-- Four stores, one a limb.
+use mathlib.Core.Path.{refl}
+use Rattle.pippenger.specs.Flat.{replaced}
 use Rattle.pippenger.proofs.column.store.Goals as goal
 
 pub returns : goal.returns
-returns c = copied _ _ _ c.requires (c.copy_from_slice.ensures.after ∙ c.array.ensures)
+unfolding replaced
+returns c = refl
