@@ -2,8 +2,8 @@
 use Rattle.rules.specs.Values.{element_at}
 use Rattle.rules.specs.Group.{elements}
 use Rattle.laws.specs.BucketWalk.{Going}
-use Rattle.pippenger.proofs.walk.walk.Given as goal
+use Rattle.pippenger.proofs.rows.Rows.walk.Given as goal
 
 abbrev pub invariant-loop-j : goal.invariant-loop-j
 invariant-loop-j l =
-    Going elements 4 l.digits (element_at l.points) l.m l.w l.fn.buckets l.j l.buckets l.q l.additions l.doublings
+    Going elements 4 l.self.digits.now (element_at l.self.points.now) l.self.m l.w l.fn.buckets l.j l.buckets l.q l.additions l.doublings

@@ -2,7 +2,7 @@ use native.Mathlib.Omega.{arith}
 use Rattle.rules.specs.Values.{element_at}
 use Rattle.rules.specs.Group.{elements}
 use Rattle.laws.proofs.BucketLoops.{ran-start, ran-turn, ran-end}
-use Rattle.pippenger.proofs.column.sum_buckets.Goals as goal
+use Rattle.pippenger.proofs.buckets.sum_buckets.Goals as goal
 
 pub loop-i-init : goal.loop-i-init
 loop-i-init c = (omega arith, omega arith, ran-start _ _ _ c.element_at-buckets_intermediate_sum.ensures)

@@ -1,14 +1,11 @@
-// One column: its points put into buckets by their digits, and the buckets summed.
-ghost use Rattle.std.specs.Prelude.{◌≡◌, ◌+◌, ◌-◌, ◌*◌, ◌<◌, ◌≤◌, length, nat_abs};
+// Buckets of four limbs each: how many a width needs, a point put into one by its digit, and their sum.
+ghost use Rattle.std.specs.Prelude.{◌≡◌, ◌+◌, ◌-◌, ◌*◌, ◌^◌, ◌<◌, ◌≤◌, length, nat_abs};
 ghost use Rattle.rules.specs.Values.{element_at};
 ghost use Rattle.rules.specs.Group.{elements};
 ghost use Rattle.rules.specs.Loops.{nonzero};
 ghost use Rattle.rules.specs.Rows.{digit};
 ghost use Rattle.laws.specs.Buckets.{bucket_sum};
-ghost use Rattle.laws.specs.Weight.{column_weight};
-ghost use Rattle.laws.specs.Cells.{digit_at, Placed};
-ghost use Rattle.laws.specs.BucketWalk.{ColumnMade};
-ghost use Rattle.pippenger.specs.Flat.{replaced, put_flat, put_rows};
+ghost use Rattle.pippenger.specs.Flat.{replaced, put_flat};
 
 use rules::Element;
 
@@ -17,6 +14,14 @@ use rules::Element;
 pub(crate) struct Summed {
     pub(crate) element: Element,
     pub(crate) additions: u64,
+}
+
+// The buckets that digits of this width need, one for each absolute value but 0: 128 at w = 8, half as many for each bit less.
+pub(crate) fn buckets_count(w: usize) -> usize
+    requires { (6 ≤ w) × (w ≤ 8) }
+    ensures { result ≡ 2 ^ (w - 1) }
+{
+    128usize >> (8 - w)
 }
 
 // An element into its four limbs.
@@ -33,7 +38,7 @@ fn store(limbs: &mut [u64], k: usize, e: Element)
 }
 
 // A point into bucket |d| - 1 by its row's digit d at place j: added, or taken away where d is negative. Additions made.
-fn put(row: &[i8], j: usize, p: Element, buckets: &mut [u64]) -> u64
+pub(crate) fn put(row: &[i8], j: usize, p: Element, buckets: &mut [u64]) -> u64
     requires { (j < length row.now) × (4 * nat_abs (digit row.now j) ≤ length buckets.old) }
     ensures { (result ≡ nonzero (digit row.now j)) × (buckets.new ≡ put_flat (digit row.now j) p buckets.old) }
 {
@@ -51,22 +56,8 @@ fn put(row: &[i8], j: usize, p: Element, buckets: &mut [u64]) -> u64
     1
 }
 
-// The points of a column into their buckets, each by its row's digit at place j.
-fn put_all(digits: &[i8], points: &[u64], m: usize, j: usize, buckets: &mut [u64]) -> u64
-    requires { Placed 4 digits.now m j (length buckets.old) }
-    ensures { (result ≡ column_weight (digit_at digits.now) m j) × (buckets.new ≡ put_rows digits.now points.now j m buckets.old) }
-{
-    let mut additions: u64 = 0;
-    for i in 0..m {
-        let a = 64 * i;
-        let e = a + 64;
-        additions += put(&digits[a..e], j, flat::element_at(points, i), &mut *buckets);
-    }
-    additions
-}
-
 // The buckets, each as often as its number says: the sum of the running sums from the last bucket down.
-fn sum_buckets(buckets: &[u64], n: usize) -> Summed
+pub(crate) fn sum_buckets(buckets: &[u64], n: usize) -> Summed
     requires { (1 < n) × (4 * n ≤ length buckets.now) }
     ensures { (result.element ≡ bucket_sum elements (element_at buckets.now) (n - 1)) × (result.additions ≡ 2 * (n - 1)) }
 {
@@ -84,26 +75,5 @@ fn sum_buckets(buckets: &[u64], n: usize) -> Summed
     Summed {
         element: buckets_sum,
         additions,
-    }
-}
-
-// One column: the buckets cleared, the points put, the buckets summed.
-pub(crate) fn column(
-    digits: &[i8],
-    points: &[u64],
-    m: usize,
-    j: usize,
-    n: usize,
-    buckets: &mut [u64],
-) -> Summed
-    requires { Placed 4 digits.now m j (4 * n) × ((1 < n) × (4 * n ≤ length buckets.old)) }
-    ensures { ColumnMade elements 4 digits.now (element_at points.now) m j n buckets.old buckets.new result.element result.additions }
-{
-    room::clear_limbs(&mut *buckets, 4 * n);
-    let put = put_all(digits, points, m, j, &mut *buckets);
-    let s = sum_buckets(buckets, n);
-    Summed {
-        element: s.element,
-        additions: put + s.additions,
     }
 }

@@ -8,11 +8,11 @@ use Rattle.pippenger.specs.Flat.{replaced}
 use Rattle.laws.specs.Weight.{column-le}
 use Rattle.laws.specs.Cells.{digit_at, column-is, column-cleared}
 use Rattle.pippenger.proofs.Stored.{cells, emptied, emptied-long, emptied-kept}
-use Rattle.pippenger.proofs.column.column.Goals as goal
+use Rattle.pippenger.proofs.rows.Rows.column.Goals as goal
 
 pub overflow_add-result : goal.overflow_add-result
 overflow_add-result c =
-    omega (arith, c.put_all-put.ensures.0, column-le (digit_at c.args.digits.now) c.args.m c.args.j, c.requires.0.rows, c.sum_buckets-s.ensures.1)
+    omega (arith, c.put_all-put.ensures.0, column-le (digit_at c.args.self.digits.now) c.args.self.m c.args.j, c.requires.0.rows, c.sum_buckets-s.ensures.1)
 
 pub returns : goal.returns
 returns c =

@@ -1,7 +1,7 @@
 -- Four stores, one a limb.
 use mathlib.Core.Path.{refl}
 use Rattle.pippenger.specs.Flat.{replaced}
-use Rattle.pippenger.proofs.column.store.Goals as goal
+use Rattle.pippenger.proofs.buckets.store.Goals as goal
 
 pub returns : goal.returns
 unfolding replaced

@@ -5,7 +5,7 @@ use Rattle.rules.specs.Values.{element_at}
 use Rattle.rules.specs.Group.{elements}
 use Rattle.rules.specs.Loops.{down}
 use Rattle.laws.specs.Buckets.{ran, bucket_sum}
-use Rattle.pippenger.proofs.column.sum_buckets.Given as goal
+use Rattle.pippenger.proofs.buckets.sum_buckets.Given as goal
 
 abbrev pub invariant-loop-i : goal.invariant-loop-i
 invariant-loop-i l =

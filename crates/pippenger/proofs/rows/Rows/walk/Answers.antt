@@ -8,7 +8,7 @@ use Rattle.rules.specs.Group.{added, elements}
 use Rattle.rules.specs.Loops.{doubled}
 use Rattle.laws.proofs.Room.{cleared-long}
 use Rattle.laws.specs.BucketWalk.{wide, ColumnMade, column-asked, Going, going_start, going-turn, going-small, going_end}
-use Rattle.pippenger.proofs.walk.walk.Goals as goal
+use Rattle.pippenger.proofs.rows.Rows.walk.Goals as goal
 
 -- after a turn: what is to come stays, and its counts are small
 module _ (ds : List ℤ) (P : ℕ → Element) (m w : ℕ) (l₀ : List ℕ) (j : ℕ) {l l' : List ℕ} {n k a d : ℕ} {q x y z : Element} (p : 0 < j) (g : Going elements 4 ds P m w l₀ j l q a d)
@@ -22,8 +22,8 @@ module _ (ds : List ℤ) (P : ℕ → Element) (m w : ℕ) (l₀ : List ℕ) (j 
 pub overflow_sub-c : goal.overflow_sub-c
 overflow_sub-c c = omega (arith, c.to_radix_2w_size_hint-c.ensures, (wide c.args.w c.requires.low c.requires.high).some)
 
-pub column-hi_column-requires : goal.column-hi_column-requires
-column-hi_column-requires c =
+pub column-high-requires : goal.column-high-requires
+column-high-requires c =
     column-asked c.requires c.buckets_count-n.ensures (omega (arith, c.to_radix_2w_size_hint-c.ensures, (wide c.args.w c.requires.low c.requires.high).some)) c.args.buckets.now refl
 
 pub overflow_step-j : goal.overflow_step-j
@@ -31,7 +31,7 @@ overflow_step-j c = omega (arith, c.to_radix_2w_size_hint-c.ensures, (wide c.arg
 
 pub loop-j-init : goal.loop-j-init
 loop-j-init c =
-    let h = rw (c.buckets_count-n.ensures, c.to_radix_2w_size_hint-c.ensures) at c.column-hi_column.ensures in
+    let h = rw (c.buckets_count-n.ensures, c.to_radix_2w_size_hint-c.ensures) at c.column-high.ensures in
     rw c.to_radix_2w_size_hint-c.ensures
     (going_start elements 4 _ _ _ _ _ (omega (arith, (wide c.args.w c.requires.low c.requires.high).some)) h)
 

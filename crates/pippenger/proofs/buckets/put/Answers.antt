@@ -7,7 +7,7 @@ use Rattle.rules.specs.Values.{element_at}
 use Rattle.rules.specs.Group.{elements}
 use Rattle.rules.specs.Rows.{digit}
 use Rattle.pippenger.specs.Flat.{replaced}
-use Rattle.pippenger.proofs.column.put.Goals as goal
+use Rattle.pippenger.proofs.buckets.put.Goals as goal
 
 pub returns-then-d-eq0 : goal.returns-then-d-eq0
 returns-then-d-eq0 c =
