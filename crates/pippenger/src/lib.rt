@@ -4,22 +4,22 @@
 ghost use Rattle.std.specs.Prelude.{◌≡◌};
 ghost use Rattle.rules.specs.Engines.{after, bucket_width, pippenger_refusal, pippenger};
 
-use crate::walk::{buckets_count, walk};
+use crate::buckets::buckets_count;
+use crate::rows::Rows;
 use rules::{Row, Sum};
 
-mod column;
-mod walk;
+mod buckets;
+mod rows;
 
 // The digits' width by the number of scalars, before the points are looked at.
+#[tactic(auto, unfolding(rules::specs::Engines::bucket_width))]
 fn width(scalars: usize) -> usize
     ensures { result ≡ bucket_width scalars }
 {
-    if scalars < 500 {
-        6
-    } else if scalars < 800 {
-        7
-    } else {
-        8
+    match scalars {
+        ..500 => 6,
+        500..800 => 7,
+        _ => 8,
     }
 }
 
@@ -57,9 +57,9 @@ pub fn optional_multiscalar_mul(
     let m = lent::pairs(scalars, points);
     let w = width(scalars.len() / 32);
     laying::rows(scalars, m, Row::Radix(w), &mut *digits);
-    let q = walk(digits, points, m, w, &mut *buckets);
+    let rows = Rows { digits, points, m };
+    let q = rows.walk(w, &mut *buckets);
     room::clear_digits(&mut *digits, 64 * m);
     room::clear_limbs(&mut *buckets, 4 * buckets_count(w));
-    let e = q.element;
-    answer::sum(e, q.additions, q.doublings)
+    answer::sum(q.element, q.additions, q.doublings)
 }

@@ -4,13 +4,14 @@ use mathlib.Core.Bool.{false}
 use mathlib.Core.List.{List, ◌++◌}
 use Prim.Native.Nat.{ℕ, ◌+◌, ◌*◌, ◌/◌, ◌<◌, ◌≤◌}
 use native.Mathlib.Omega.{arith}
-use lib.ListN.{length, take, drop, length-append, length-drop}
+use lib.ListN.{length, get_or, take, drop, length-append, length-drop}
 use lib.Seq.{length-take-le, drop_at}
 use lib.IntN.{ℤ, pos}
 use lib.Dec.{eqb, ltb}
 use borrow.Author.Tests.{eqb-true, ltb-false, not-false}
 use Rattle.rules.specs.declared.Sum.{Sum}
 use Rattle.rules.specs.declared.Walk.{Walk}
+use Rattle.rules.specs.Values.{limb}
 use Rattle.rules.specs.Numbers.{most, cleared, room_after, summed, condition}
 use Rattle.rules.specs.Lists.{scalar_count, point_count, shorter, other_than, any_big, any_flag, any_point, bad_lists}
 use Rattle.rules.specs.Engines.{after, mixed_conditions, mixed_refusal, mixed}
@@ -82,9 +83,9 @@ module _ (ts sss ss ps fs : List ℕ) (ds : List ℤ) (ls : List ℕ) where
     pub limbs-part : 32 * scalar_count ss ≡ length (take (32 * scalar_count ss) ls)
     limbs-part = sym (length-take-le _ ls room.1)
 
-    pub ready : Ready ts sss ss ps (length (take (256 * (scalar_count sss + scalar_count ss)) ds)) (length (take (32 * scalar_count ss) ls))
+    pub ready : ((k : ℕ) → get_or ps k 0 < limb) → Ready ts sss ss ps (length (take (256 * (scalar_count sss + scalar_count ss)) ds)) (length (take (32 * scalar_count ss) ls))
     unfolding condition
-    ready = record {
+    ready range = record {
       few = few.1;
       few-static = few.0;
       even = sym counts.1;
@@ -92,6 +93,7 @@ module _ (ts sss ss ps fs : List ℕ) (ds : List ℤ) (ls : List ℕ) where
       rows = sym digits-part;
       windows = sym limbs-part;
       small = λ i h. scalar-has-row (small ss i small-dynamic h);
+      limb-range = range;
       under = λ i h. there-under ps fs (point_count ps) i (told 8) points-under (omega (arith, counts.1)) (omega (arith, counts.1));
       entries = told 10;
     }

@@ -1,9 +1,9 @@
 -- The walk over dynamic pairs and static rows, laid one behind the other: its sum and its counts.
-use mathlib.Core.Path.{◌≡◌, sym, ap, ap₂, ◌∙◌}
+use mathlib.Core.Path.{◌≡◌, ap, ap₂, ◌∙◌}
 use mathlib.Core.List.{List, ◌++◌, append-nil}
 use Prim.Native.Nat.{ℕ, ◌+◌, ◌-◌, ◌*◌, ◌%◌, ◌^◌, ◌<◌}
 use native.Mathlib.Omega.{arith}
-use lib.ListN.{length, get_or, take, drop, length-append, length-drop, drop_of_length-le}
+use lib.ListN.{length, take, drop, length-append, length-drop, drop_of_length-le}
 use lib.Seq.{length-take-le, take_at, drop_at, take_all}
 use lib.IntN.{ℤ}
 use lib.Dec.{lit≤}
@@ -11,7 +11,7 @@ use Rattle.rules.specs.declared.Counts.{Counts}
 use Rattle.rules.specs.declared.Row.TheVariants.{Naf}
 use Rattle.rules.specs.declared.Window.TheVariants.{Odd8}
 use Rattle.rules.specs.declared.Walk.{Walk}
-use Rattle.rules.specs.Values.{limb, element_of, flat, point_at, scalar_at}
+use Rattle.rules.specs.Values.{element_of, flat, point_at, scalar_at}
 use Rattle.rules.specs.Group.{L, residues}
 use Rattle.rules.specs.Loops.{weight}
 use Rattle.rules.specs.Rows.{naf_row}
@@ -73,7 +73,7 @@ module _ (ts sss ss ps : List ℕ) (ds : List ℤ) (ls : List ℕ) (ready : Read
   static-rows = rw static-long (omega (arith, ready.tabled))
 
   -- all of it, as the code has it
-  module _ (range : (k : ℕ) → get_or ps k 0 < limb) {made : Counts} {ys xs : List ℤ} {zs : List ℕ} (dynamic : ys ≡ laid_rows (Naf 5) ss p ds) (long : length ys ≡ length ds)
+  module _ {made : Counts} {ys xs : List ℤ} {zs : List ℕ} (dynamic : ys ≡ laid_rows (Naf 5) ss p ds) (long : length ys ≡ length ds)
       (fixed : xs ≡ laid_rows (Naf 8) sss q (take (length ys - 256 * p) (drop (256 * p) ys))) (windowed : ◌≡◌ {A = Made} (record { counts = made; limbs = zs }) (laid_windows Odd8 ps p ls)) where
     dynamic-is : take (256 * p) ys ≡ slots
     dynamic-is =
@@ -93,7 +93,7 @@ module _ (ts sss ss ps : List ℕ) (ds : List ℤ) (ls : List ℕ) (ready : Read
     all : ◌≡◌ {A = Made} (record { counts = made; limbs = zs }) (record { counts = record { additions = 7 * p; doublings = p }; limbs = flat (λ i. limbs_flat (odd residues (point_at ps i)) 8) p })
     all =
         windowed
-        ∙ odd8-laid ps p ls (omega (arith, ready.even)) range ready.under (omega (arith, ready.windows))
+        ∙ odd8-laid ps p ls (omega (arith, ready.even)) ready.limb-range ready.under (omega (arith, ready.windows))
         ∙ ap (λ (l : List ℕ). record { counts = record { additions = 7 * p; doublings = p }; limbs = l })
         (laid-all 32 _ p ls (λ i _. limbs-length (odd residues (point_at ps i)) 8) ready.windows)
 
@@ -102,14 +102,6 @@ module _ (ts sss ss ps : List ℕ) (ds : List ℤ) (ls : List ℕ) (ready : Read
 
     xs-long : length xs ≡ 256 * q
     xs-long = ap length static-is ∙ static-long
-
-    pub digits_long_lem : length (behind (256 * p) ys xs) ≡ length ds
-    digits_long_lem =
-        ap length (behind-is (256 * p) (256 * q) ys xs room xs-long)
-        ∙ simp length-append (omega (arith, first (256 * p) (256 * q) ys xs room xs-long, xs-long, room, long))
-
-    pub front-rows : 256 * p ≡ length (take (256 * p) (behind (256 * p) ys xs))
-    front-rows = sym (ap length (front-is (256 * p) (256 * q) ys xs room xs-long) ∙ length-take-le (256 * p) ys (omega (arith, room)))
 
     module _ {w : Walk} (walk : w ≡ walked (take (256 * p) (behind (256 * p) ys xs)) zs (take (length (behind (256 * p) ys xs) - 256 * p) (drop (256 * p) (behind (256 * p) ys xs))) ts 256) where
       walk_is : w ≡ took (element_of ((products ss ps p + entry_sum (rows_digit (naf_row 8) sss) (entry_at 256 ts) q 256) % L))

@@ -1,7 +1,7 @@
 -- What the walk over both kinds of row asks, and what it gives.
-use Rattle.std.specs.Prelude.{◌≡◌, false, List, ℕ, ◌+◌, ◌*◌, ◌/◌, ◌%◌, ◌<◌, ◌≤◌, length}
+use Rattle.std.specs.Prelude.{◌≡◌, false, List, ℕ, ◌+◌, ◌*◌, ◌/◌, ◌%◌, ◌<◌, ◌≤◌, get_or, length}
 use Rattle.rules.specs.declared.Walk.{Walk}
-use Rattle.rules.specs.Values.{element_of, point_at, scalar_at}
+use Rattle.rules.specs.Values.{limb, element_of, point_at, scalar_at}
 use Rattle.rules.specs.Group.{L}
 use Rattle.rules.specs.Loops.{weight}
 use Rattle.rules.specs.Numbers.{most, row_bound}
@@ -19,6 +19,7 @@ pub record Ready (ts sss ss ps : List ℕ) (digits limbs : ℕ) : Type 0 where
   pub rows : digits ≡ 256 * (scalar_count sss + scalar_count ss)
   pub windows : limbs ≡ 32 * scalar_count ss
   pub small : (i : ℕ) → i < scalar_count ss → scalar_at ss i < row_bound
+  pub limb-range : (k : ℕ) → get_or ps k 0 < limb
   pub under : (i : ℕ) → i < scalar_count ss → point_at ps i < L
   pub entries : any_over ts ≡ false
 

@@ -1,13 +1,14 @@
 // Precomputed Straus: static tables of width 8, dynamic rows and windows of width 5.
 #![tactic(auto)]
 
-ghost use Rattle.std.specs.Prelude.{◌≡◌, length};
+ghost use Rattle.std.specs.Prelude.{◌≡◌};
 ghost use Rattle.rules.specs.Engines.{after, after_new, new_tables, mixed};
-ghost use Rattle.precomputed_straus.specs.Fill.{Ready, mixed_walk};
 // The most static points: more are refused by 2.
+use crate::lists::Mixed;
 pub use lent::MOST_STATIC;
-use rules::{Counted, Row, Sum, Walk, Window};
+use rules::{Counted, Sum, Window};
 
+pub(crate) mod lists;
 pub(crate) mod refusals;
 
 // Limbs of a static point's table: 1P, 3P, .. 127P.
@@ -25,34 +26,6 @@ pub fn new(points: &[u64], tables: &mut [u64]) -> Counted
     answer::counted(laying::windows(points, n, Window::Odd64, &mut *tables))
 }
 
-// The walk over dynamic pairs and static rows, which are laid into room of just their length.
-fn walk(
-    tables: &[u64],
-    static_scalars: &[u8],
-    scalars: &[u8],
-    points: &[u64],
-    digits: &mut [i8],
-    limbs: &mut [u64],
-) -> Walk
-    requires { Ready tables.now static_scalars.now scalars.now points.now (length digits.old) (length limbs.old) }
-    ensures { result ≡ mixed_walk tables.now static_scalars.now scalars.now points.now }
-{
-    let p = scalars.len() / 32;
-    let q = static_scalars.len() / 32;
-    let d = 256 * p;
-    laying::rows(scalars, p, Row::Naf(5), &mut *digits);
-    laying::rows(static_scalars, q, Row::Naf(8), &mut digits[d..]);
-    let made = laying::windows(points, p, Window::Odd8, &mut *limbs);
-    let rows = &digits[..];
-    let w = columns::walk(&rows[..d], &limbs[..], &rows[d..], tables, 256);
-    let element = w.element;
-    Walk {
-        element,
-        additions: made.additions + w.additions,
-        doublings: made.doublings + w.doublings,
-    }
-}
-
 // The sum over static rows on their tables as they stand, and over dynamic pairs.
 pub fn optional_mixed_multiscalar_mul(
     tables: &[u64],
@@ -65,29 +38,21 @@ pub fn optional_mixed_multiscalar_mul(
 ) -> Sum
     ensures { after result digits.new limbs.new ≡ mixed tables.now static_scalars.now dynamic_scalars.now dynamic_points.now dynamic_flags.now digits.old limbs.old }
 {
-    let number = crate::refusals::mixed_refusal(
+    let lists = Mixed {
         tables,
         static_scalars,
-        dynamic_scalars,
-        dynamic_points,
-        dynamic_flags,
-        digits.len(),
-        limbs.len(),
-    );
+        scalars: dynamic_scalars,
+        points: dynamic_points,
+        flags: dynamic_flags,
+    };
+    let number = lists.refusal(digits.len(), limbs.len());
     if number != 0 {
         return answer::refused_sum(number);
     }
     let p = dynamic_scalars.len() / 32;
     let e = 256 * (static_scalars.len() / 32 + p);
     let f = 32 * p;
-    let w = walk(
-        tables,
-        static_scalars,
-        dynamic_scalars,
-        dynamic_points,
-        &mut digits[..e],
-        &mut limbs[..f],
-    );
+    let w = lists.walk(&mut digits[..e], &mut limbs[..f]);
     room::clear_digits(&mut *digits, e);
     room::clear_limbs(&mut *limbs, f);
     answer::sum(w.element, w.additions, w.doublings)
