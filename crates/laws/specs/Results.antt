@@ -12,9 +12,9 @@ use Rattle.rules.specs.declared.Element.{Element}
 use Rattle.rules.specs.declared.Counts.{Counts}
 use Rattle.rules.specs.declared.Walk.{Walk}
 use Rattle.rules.specs.Values.{places}
-use Rattle.rules.specs.Numbers.{number_of, as_number, given, valued, counted, summed, row_answer, bytes_answer}
+use Rattle.rules.specs.Numbers.{number_of, as_number, given, valued, counted, summed, row_answer, bytes_answer, window_answer}
 use Rattle.rules.specs.Helpers.{counted_done}
-use Rattle.rules.specs.Results.{as_value, as_counted, as_sum, as_row, as_scalar_bytes}
+use Rattle.rules.specs.Results.{as_value, as_counted, as_sum, as_row, as_scalar_bytes, as_window}
 
 -- no refusal has the number 0
 pub refusal-not-0 : (r : Refusal) → number_of r ≡ 0 → ⊥
@@ -76,6 +76,11 @@ module _ {m : ℕ} where
   refused-bytes {y = Ok l} r s = absurd (r.not-0 refl)
   refused-bytes {y = Err e} r s = rw (sym r.number, ne_eqb (number_of e) 0 r.not-0)
 
+  pub refused-window : {N : ℕ} {y : Result (List ℕ) Refusal} → Refused y m → (w : List ℕ) → as_window N y ≡ window_answer N m w
+  unfolding as_window as_number window_answer given
+  refused-window {y = Ok l} r w = absurd (r.not-0 refl)
+  refused-window {y = Err e} r w = rw (sym r.number, ne_eqb (number_of e) 0 r.not-0)
+
 -- done: the number is 0
 module _ {m : ℕ} (z : m ≡ 0) where
   pub done-counted : {c : Counts} {a d : ℕ} → c.additions ≡ a → c.doublings ≡ d → as_counted (Ok c) ≡ counted m a d
@@ -85,3 +90,7 @@ module _ {m : ℕ} (z : m ≡ 0) where
   pub done-row : {N : ℕ} {l row : List ℤ} → l ≡ row → as_row N (Ok l) ≡ row_answer N m row
   unfolding as_row row_answer given
   done-row f = rw (z, f)
+
+  pub done-window : {N : ℕ} {l w : List ℕ} → l ≡ w → as_window N (Ok l) ≡ window_answer N m w
+  unfolding as_window window_answer given
+  done-window f = rw (z, f)

@@ -4,10 +4,12 @@
 ghost use Rattle.std.specs.Prelude.{◌≡◌, cond, ◌≤◌, pos};
 ghost use Rattle.std.specs.Int.Signed.{lt_z};
 ghost use Rattle.rules.specs.Group.{negated};
+ghost use Rattle.rules.specs.Numbers.{as_number};
+ghost use Rattle.rules.specs.Results.{as_value};
 ghost use Rattle.rules.specs.Windows.{lookup_refusal, select, select_naf};
 ghost use Rattle.rules.specs.Helpers.{looked_up};
 
-use rules::{Element, Value};
+use rules::{Element, Refusal};
 
 // Entry number a, from 1, among the first eight: every entry is passed over; 0 and past them the identity.
 fn passed(window: &[u64], a: usize) -> Element
@@ -40,54 +42,48 @@ pub fn looked_up(window: &[u64], d: i8) -> Element
 }
 
 // What a lookup in a window of n entries answers: every entry is looked at.
-fn lookup_refusal(window: &[u64], n: usize, outside: bool) -> u8
+fn lookup_refusal(window: &[u64], n: usize, outside: bool) -> Result<(), Refusal>
     requires { n ≤ 64 }
-    ensures { result ≡ lookup_refusal n outside window.now }
+    ensures { as_number result ≡ lookup_refusal n outside window.now }
 {
     if window.len() != 4 * n {
-        return 1;
+        return Err(Refusal::NotWhole);
     }
     if lent::any_over(window) | outside {
-        return 10;
+        return Err(Refusal::BadDigit);
     }
-    0
+    Ok(())
 }
 
 // Radix lookup in a lent window.
-pub fn select(window: &[u64], d: i8) -> Value
-    ensures { result ≡ select window.now d }
+pub fn select(window: &[u64], d: i8) -> Result<Element, Refusal>
+    ensures { as_value result ≡ select window.now d }
 {
     let a = digit::magnitude(d);
-    let number = lookup_refusal(window, 8, 8 < a);
-    if number != 0 {
-        return answer::refused_value(number);
-    }
-    answer::value(looked_up(window, d))
+    lookup_refusal(window, 8, 8 < a)?;
+    Ok(looked_up(window, d))
 }
 
 // NAF lookup in a lent window of n entries.
-fn select_naf(window: &[u64], d: i8, n: usize) -> Value
+fn select_naf(window: &[u64], d: i8, n: usize) -> Result<Element, Refusal>
     requires { (1 ≤ n) × (n ≤ 64) }
-    ensures { result ≡ select_naf n window.now d }
+    ensures { as_value result ≡ select_naf n window.now d }
 {
     let a = digit::magnitude(d);
-    let number = lookup_refusal(window, n, (a % 2 == 0) | (2 * n - 1 < a));
-    if number != 0 {
-        return answer::refused_value(number);
-    }
-    answer::value(by_sign(d, flat::element_at(window, digit::odd_entry(d))))
+    lookup_refusal(window, n, (a % 2 == 0) | (2 * n - 1 < a))?;
+    Ok(by_sign(d, flat::element_at(window, digit::odd_entry(d))))
 }
 
 // NAF lookup in a lent window of width 5.
-pub fn select_naf5(window: &[u64], d: i8) -> Value
-    ensures { result ≡ select_naf 8 window.now d }
+pub fn select_naf5(window: &[u64], d: i8) -> Result<Element, Refusal>
+    ensures { as_value result ≡ select_naf 8 window.now d }
 {
     select_naf(window, d, 8)
 }
 
 // NAF lookup in a lent window of width 8.
-pub fn select_naf8(window: &[u64], d: i8) -> Value
-    ensures { result ≡ select_naf 64 window.now d }
+pub fn select_naf8(window: &[u64], d: i8) -> Result<Element, Refusal>
+    ensures { as_value result ≡ select_naf 64 window.now d }
 {
     select_naf(window, d, 64)
 }

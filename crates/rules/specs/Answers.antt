@@ -11,12 +11,7 @@ pub record ScalarBytes : Type 0 where
   pub number : ℕ
   pub bytes : List ℕ
 
--- a window of 8 elements, flat
-pub record Window8 : Type 0 where
-  pub number : ℕ
-  pub limbs : List ℕ
-
--- a window of 64 elements, flat
-pub record Window64 : Type 0 where
+-- a window of N elements, flat
+pub record WindowAnswer (N : ℕ) : Type 0 where
   pub number : ℕ
   pub limbs : List ℕ

@@ -1,9 +1,9 @@
 -- Words of the claims: what a refused call leaves, what a contract says, a list of pairs beside its batch.
-use Rattle.std.specs.Prelude.{◌≡◌, Bool, true, false, List, [], ◌∷◌, ◌↔◌, ℕ, ◌%◌, ◌<◌, replicate, ℤ, pos}
+use Rattle.std.specs.Prelude.{◌≡◌, Bool, true, false, List, [], ◌∷◌, ◌↔◌, ℕ, ◌*◌, ◌%◌, ◌<◌, replicate, ℤ, pos}
 use Rattle.rules.specs.declared.Value.{Value}
 use Rattle.rules.specs.declared.Counted.{Counted}
 use Rattle.rules.specs.declared.Sum.{Sum}
-use Rattle.rules.specs.Answers.{RowAnswer, ScalarBytes, Window8, Window64}
+use Rattle.rules.specs.Answers.{RowAnswer, ScalarBytes, WindowAnswer}
 use Rattle.rules.specs.Values.{limb, places}
 use Rattle.rules.specs.Group.{L}
 use Rattle.rules.specs.Numbers.{condition, counted, NafRow, RadixRow}
@@ -39,11 +39,8 @@ a_radix_row = a_row 64
 abbrev pub a_scalar : Kind ScalarBytes
 a_scalar = record { number = λ r. r.number; zeros = λ n. record { number = n; bytes = replicate 32 0 } }
 
-abbrev pub a_window8 : Kind Window8
-a_window8 = record { number = λ r. r.number; zeros = λ n. record { number = n; limbs = replicate 32 0 } }
-
-abbrev pub a_window64 : Kind Window64
-a_window64 = record { number = λ r. r.number; zeros = λ n. record { number = n; limbs = replicate 256 0 } }
+abbrev pub a_window : (N : ℕ) → Kind (WindowAnswer N)
+a_window N = record { number = λ r. r.number; zeros = λ n. record { number = n; limbs = replicate (4 * N) 0 } }
 
 -- beside it working room, tables or memory as they were
 abbrev pub with_room : List ℤ → List ℕ → Kind After

@@ -1,5 +1,5 @@
 -- What a call's result says in 01's form: a done call has number 0 and what it carries; a refused one has its refusal's number, and zeros as value and counts.
-use Rattle.std.specs.Prelude.{List, ℕ, ℤ, pos, replicate, Result, Ok, Err}
+use Rattle.std.specs.Prelude.{List, ℕ, ◌*◌, ℤ, pos, replicate, Result, Ok, Err}
 use Rattle.rules.specs.declared.Refusal.{Refusal}
 use Rattle.rules.specs.declared.Element.{Element}
 use Rattle.rules.specs.declared.Counts.{Counts}
@@ -7,7 +7,7 @@ use Rattle.rules.specs.declared.Walk.{Walk}
 use Rattle.rules.specs.declared.Value.{Value}
 use Rattle.rules.specs.declared.Counted.{Counted}
 use Rattle.rules.specs.declared.Sum.{Sum}
-use Rattle.rules.specs.Answers.{RowAnswer, ScalarBytes, Window8, Window64}
+use Rattle.rules.specs.Answers.{RowAnswer, ScalarBytes, WindowAnswer}
 use Rattle.rules.specs.Numbers.{done, number_of, valued, counted, summed}
 use Rattle.rules.specs.Helpers.{value_done, counted_done, sum_done}
 
@@ -33,10 +33,6 @@ unfoldable pub as_scalar_bytes : Result (List ℕ) Refusal → ScalarBytes
 as_scalar_bytes (Ok l) = record { number = done; bytes = l }
 as_scalar_bytes (Err r) = record { number = number_of r; bytes = replicate 32 0 }
 
-unfoldable pub as_window8 : Result (List ℕ) Refusal → Window8
-as_window8 (Ok l) = record { number = done; limbs = l }
-as_window8 (Err r) = record { number = number_of r; limbs = replicate 32 0 }
-
-unfoldable pub as_window64 : Result (List ℕ) Refusal → Window64
-as_window64 (Ok l) = record { number = done; limbs = l }
-as_window64 (Err r) = record { number = number_of r; limbs = replicate 256 0 }
+unfoldable pub as_window : (N : ℕ) → Result (List ℕ) Refusal → WindowAnswer N
+as_window N (Ok l) = record { number = done; limbs = l }
+as_window N (Err r) = record { number = number_of r; limbs = replicate (4 * N) 0 }

@@ -4,11 +4,12 @@
 ghost use Rattle.std.specs.Prelude.{◌≡◌};
 ghost use Rattle.rules.specs.Group.{elements};
 ghost use Rattle.rules.specs.Windows.{stepped, lookup_table, naf_lookup_table5, naf_lookup_table8};
+ghost use Rattle.rules.specs.Results.{as_window};
 ghost use Rattle.rules.specs.Lists.{put, joined};
 ghost use Rattle.rules.specs.Helpers.{elements_flat, made, made_successive, made_odd};
 ghost use Rattle.laws.specs.Parts.{Each};
 
-use rules::{Counts, Element, Window8, Window64};
+use rules::{Counts, Element, Refusal};
 
 // Eight entries from p on, each from the one before by adding s.
 fn stepped8(p: Element, s: Element, additions: &mut u64) -> [[u64; 4]; 8]
@@ -106,37 +107,31 @@ pub fn make_odd64(p: Element, part: &mut [u64]) -> Counts
 }
 
 // The radix window of a lent point.
-pub fn lookup_table(point: &[u64]) -> Window8
-    ensures { result ≡ lookup_table point.now }
+pub fn lookup_table(point: &[u64]) -> Result<[u64; 32], Refusal>
+    ensures { as_window 8 result ≡ lookup_table point.now }
 {
+    group::point_refusal(point)?;
     let mut limbs = [0u64; 32];
-    let number = group::point_refusal(point);
-    if number == 0 {
-        make_successive(flat::element_at(point, 0), &mut limbs);
-    }
-    Window8 { number, limbs }
+    make_successive(flat::element_at(point, 0), &mut limbs);
+    Ok(limbs)
 }
 
 // The NAF window of width 5 of a lent point.
-pub fn naf_lookup_table5(point: &[u64]) -> Window8
-    ensures { result ≡ naf_lookup_table5 point.now }
+pub fn naf_lookup_table5(point: &[u64]) -> Result<[u64; 32], Refusal>
+    ensures { as_window 8 result ≡ naf_lookup_table5 point.now }
 {
+    group::point_refusal(point)?;
     let mut limbs = [0u64; 32];
-    let number = group::point_refusal(point);
-    if number == 0 {
-        make_odd8(flat::element_at(point, 0), &mut limbs);
-    }
-    Window8 { number, limbs }
+    make_odd8(flat::element_at(point, 0), &mut limbs);
+    Ok(limbs)
 }
 
 // The NAF window of width 8 of a lent point.
-pub fn naf_lookup_table8(point: &[u64]) -> Window64
-    ensures { result ≡ naf_lookup_table8 point.now }
+pub fn naf_lookup_table8(point: &[u64]) -> Result<[u64; 256], Refusal>
+    ensures { as_window 64 result ≡ naf_lookup_table8 point.now }
 {
+    group::point_refusal(point)?;
     let mut limbs = [0u64; 256];
-    let number = group::point_refusal(point);
-    if number == 0 {
-        make_odd64(flat::element_at(point, 0), &mut limbs);
-    }
-    Window64 { number, limbs }
+    make_odd64(flat::element_at(point, 0), &mut limbs);
+    Ok(limbs)
 }

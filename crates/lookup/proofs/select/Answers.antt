@@ -1,6 +1,8 @@
 -- The first test that holds gives the number; else every entry is a member.
 use mathlib.Core.Path.{sym, ap, ◌∙◌}
 use lib.IntN.{nat_abs}
+use Rattle.std.proofs.lemmas.Result.{err_from_is_err_and}
+use Rattle.laws.specs.Results.{passed-as-0, handed-on}
 use Rattle.rules.specs.Windows.{select}
 use Rattle.rules.specs.Helpers.{looked_up}
 use Rattle.digit.proofs.Machine.{back8}
@@ -9,15 +11,16 @@ use Rattle.limbs.proofs.Done.{done-value}
 use Rattle.lookup.proofs.Lookups.{number, found}
 use Rattle.lookup.proofs.select.Goals as goal
 
-pub returns-then-number-ne0 : goal.returns-then-number-ne0
+pub returns-in_err-lookup_refusal : goal.returns-in_err-lookup_refusal
 unfolding select
-returns-then-number-ne0 c =
+returns-in_err-lookup_refusal c =
     let m = c.magnitude-a.ensures ∙ ap nat_abs (back8 _ c.ranges.d) in
-    refused-value (number 8 c.args.window.now c.args.d m c.lookup_refusal-number.ensures) c.if-number-ne0.true _ c.refused_value.ensures
+    let p = err_from_is_err_and c.from_residual.result c.from_residual.ensures.1 in
+    refused-value (handed-on p.1 p.2 c.in_err-lookup_refusal.was (number 8 c.args.window.now c.args.d m c.lookup_refusal.ensures)) _
 
 pub returns : goal.returns
 unfolding select
 returns c =
     let e = back8 _ c.ranges.d in
-    let z = sym (number 8 c.args.window.now c.args.d (c.magnitude-a.ensures ∙ ap nat_abs e) c.lookup_refusal-number.ensures) ∙ c.if-number-ne0.false in
-    done-value z _ c.value.ensures (c.looked_up.ensures ∙ ap (looked_up 8 c.args.window.now) e ∙ found 8 _ (λ i. (c.type_inv.window i).fits) _ z)
+    let z = sym (number 8 c.args.window.now c.args.d (c.magnitude-a.ensures ∙ ap nat_abs e) c.lookup_refusal.ensures) ∙ (passed-as-0 c.in_ok-lookup_refusal.was) in
+    done-value z _ (c.looked_up.ensures ∙ ap (looked_up 8 c.args.window.now) e ∙ found 8 _ (λ i. (c.type_inv.window i).fits) _ z)

@@ -1,17 +1,20 @@
--- Refused by its number, else the window made in zeros.
+-- Refused, or the window made in zeros.
 use mathlib.Core.Path.{refl, sym, ap, ◌∙◌}
+use Rattle.std.proofs.lemmas.Result.{err_from_is_err_and}
 use Rattle.rules.specs.Windows.{naf_lookup_table5}
 use Rattle.rules.specs.Helpers.{Made}
-use Rattle.window.proofs.Tables.{odd-window, done8, refused8}
+use Rattle.laws.specs.Results.{passed-as-0, handed-on, refused-window, done-window}
+use Rattle.window.proofs.Tables.{odd-window}
 use Rattle.window.proofs.naf_lookup_table5.Goals as goal
 
-pub returns-then-number-eq0 : goal.returns-then-number-eq0
+pub returns-in_err-point_refusal : goal.returns-in_err-point_refusal
 unfolding naf_lookup_table5
-returns-then-number-eq0 c =
-    done8 c.point_refusal-number.ensures _ c.if-number-eq0.true
-    (ap (λ (m : Made). m.limbs) c.make_odd8.ensures
-    ∙ odd-window _ (λ i. (c.type_inv.point i).fits) (sym c.point_refusal-number.ensures ∙ c.if-number-eq0.true) 8 _ refl c.element_at.ensures)
+returns-in_err-point_refusal c =
+    let p = err_from_is_err_and c.from_residual.result c.from_residual.ensures.1 in
+    refused-window (handed-on p.1 p.2 c.in_err-point_refusal.was c.point_refusal.ensures) _
 
-pub returns-else-number-eq0 : goal.returns-else-number-eq0
+pub returns : goal.returns
 unfolding naf_lookup_table5
-returns-else-number-eq0 c = refused8 c.point_refusal-number.ensures _ c.if-number-eq0.false refl
+returns c =
+    let z = sym c.point_refusal.ensures ∙ passed-as-0 c.in_ok-point_refusal.was in
+    done-window z (ap (λ (m : Made). m.limbs) c.make_odd8.ensures ∙ odd-window _ (λ i. (c.type_inv.point i).fits) z 8 _ refl c.element_at.ensures)
