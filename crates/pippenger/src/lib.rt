@@ -2,11 +2,13 @@
 #![tactic(auto)]
 
 ghost use Rattle.std.specs.Prelude.{◌≡◌};
+ghost use Rattle.rules.specs.Numbers.{as_number};
+ghost use Rattle.rules.specs.Results.{as_sum};
 ghost use Rattle.rules.specs.Engines.{after, bucket_width, pippenger_refusal, pippenger};
 
 use crate::buckets::buckets_count;
 use crate::rows::Rows;
-use rules::{Row, Sum};
+use rules::{Refusal, Row, Walk};
 
 mod buckets;
 mod rows;
@@ -23,20 +25,20 @@ fn width(scalars: usize) -> usize
     }
 }
 
-// The number that the call answers.
-fn refusal(scalars: &[u8], points: &[u64], flags: &[u8], digits: usize, buckets: usize) -> u8
-    ensures { result ≡ pippenger_refusal scalars.now points.now flags.now digits buckets }
+// What the call asks, and the refusal where it is not so.
+fn refusal(
+    scalars: &[u8],
+    points: &[u64],
+    flags: &[u8],
+    digits: usize,
+    buckets: usize,
+) -> Result<(), Refusal>
+    ensures { as_number result ≡ pippenger_refusal scalars.now points.now flags.now digits buckets }
 {
-    let n = asks::lists(scalars, points, flags);
-    if n != 0 {
-        return n;
-    }
+    asks::lists(scalars, points, flags)?;
     let m = lent::pairs(scalars, points);
     let limbs = 4 * buckets_count(width(scalars.len() / 32));
-    let k = asks::room(64 * m, digits, limbs, buckets);
-    if k != 0 {
-        return k;
-    }
+    asks::room(64 * m, digits, limbs, buckets)?;
     asks::contents(scalars, points, flags, m)
 }
 
@@ -47,13 +49,10 @@ pub fn optional_multiscalar_mul(
     flags: &[u8],
     digits: &mut [i8],
     buckets: &mut [u64],
-) -> Sum
-    ensures { after result digits.new buckets.new ≡ pippenger scalars.now points.now flags.now digits.old buckets.old }
+) -> Result<Walk, Refusal>
+    ensures { after (as_sum result) digits.new buckets.new ≡ pippenger scalars.now points.now flags.now digits.old buckets.old }
 {
-    let n = refusal(scalars, points, flags, digits.len(), buckets.len());
-    if n != 0 {
-        return answer::refused_sum(n);
-    }
+    refusal(scalars, points, flags, digits.len(), buckets.len())?;
     let m = lent::pairs(scalars, points);
     let w = width(scalars.len() / 32);
     laying::rows(scalars, m, Row::Radix(w), &mut *digits);
@@ -61,5 +60,5 @@ pub fn optional_multiscalar_mul(
     let q = rows.walk(w, &mut *buckets);
     room::clear_digits(&mut *digits, 64 * m);
     room::clear_limbs(&mut *buckets, 4 * buckets_count(w));
-    answer::sum(q.element, q.additions, q.doublings)
+    Ok(q)
 }

@@ -9,18 +9,20 @@ use lib.Seq.{length-take-le, drop_at}
 use lib.IntN.{ℤ, pos}
 use lib.Dec.{eqb, ltb}
 use borrow.Author.Tests.{eqb-true, ltb-false, not-false}
+use Rattle.std.specs.Prelude.{Result, Ok}
+use Rattle.rules.specs.declared.Refusal.{Refusal}
 use Rattle.rules.specs.declared.Sum.{Sum}
 use Rattle.rules.specs.declared.Walk.{Walk}
 use Rattle.rules.specs.Values.{limb}
-use Rattle.rules.specs.Numbers.{most, cleared, room_after, summed, condition}
+use Rattle.rules.specs.Numbers.{most, cleared, room_after, condition}
 use Rattle.rules.specs.Lists.{scalar_count, point_count, shorter, other_than, any_big, any_flag, any_point, bad_lists}
 use Rattle.rules.specs.Engines.{after, mixed_conditions, mixed_refusal, mixed}
-use Rattle.rules.specs.Helpers.{sum_done}
+use Rattle.rules.specs.Results.{as_sum}
 use Rattle.laws.specs.RadixRows.{scalar-has-row}
 use Rattle.laws.specs.Conditions.{or_split}
 use Rattle.laws.specs.Answers.{first_done}
 use Rattle.laws.proofs.Room.{cleared-rest, room-refused, room-done}
-use Rattle.laws.specs.Results.{refused-sum}
+use Rattle.laws.specs.Results.{Refused, refused-not-0, refused-sum}
 use Rattle.limbs.proofs.Done.{done-sum}
 use Rattle.lent.proofs.Passed.{small, there-under}
 use Rattle.precomputed_straus.specs.Fill.{Ready, mixed_walk}
@@ -33,12 +35,11 @@ written z n l x h e =
     cleared-rest z n (x ++ drop n l) l (simp (length-append, length-drop) (omega arith)) (drop_at x (drop n l) n k)
 
 module _ (ts sss ss ps fs : List ℕ) (ds : List ℤ) (ls : List ℕ) where
-  pub refused-mixed : {n : ℕ} {r : Sum} → n ≡ mixed_refusal ts sss ss ps fs (length ds) (length ls) → (n ≡ 0 → ⊥) → r ≡ summed n 0 0 0
-      → after r ds ls ≡ mixed ts sss ss ps fs ds ls
+  pub refused-mixed : {y : Result Walk Refusal} → Refused y (mixed_refusal ts sss ss ps fs (length ds) (length ls)) → after (as_sum y) ds ls ≡ mixed ts sss ss ps fs ds ls
   unfolding mixed
-  refused-mixed f h e =
-      ap (λ (r : Sum). after r ds ls) (refused-sum f h _ _ _ e)
-      ∙ ap₂ (after _) (sym (room-refused (pos 0) _ _ ds (λ z. h (f ∙ z)))) (sym (room-refused 0 _ _ ls (λ z. h (f ∙ z))))
+  refused-mixed r =
+      ap (λ (s : Sum). after s ds ls) (refused-sum r _ _ _)
+      ∙ ap₂ (after _) (sym (room-refused (pos 0) _ _ ds (refused-not-0 r))) (sym (room-refused 0 _ _ ls (refused-not-0 r)))
 
   module _ (passed : mixed_refusal ts sss ss ps fs (length ds) (length ls) ≡ 0) where
     told : (i : ℕ) → condition (mixed_conditions ts sss ss ps fs (length ds) (length ls)) i ≡ false
@@ -98,13 +99,13 @@ module _ (ts sss ss ps fs : List ℕ) (ds : List ℤ) (ls : List ℕ) where
       entries = told 10;
     }
 
-    pub done-mixed : {w : Walk} {r : Sum} (x : List ℤ) (y : List ℕ) {d : List ℤ} {l : List ℕ} → w ≡ mixed_walk ts sss ss ps → r ≡ sum_done w.element w.additions w.doublings
+    pub done-mixed : {w : Walk} (x : List ℤ) (y : List ℕ) {d : List ℤ} {l : List ℕ} → w ≡ mixed_walk ts sss ss ps
         → length x ≡ length (take (256 * (scalar_count sss + scalar_count ss)) ds) → length y ≡ length (take (32 * scalar_count ss) ls)
         → d ≡ cleared (pos 0) (256 * (scalar_count sss + scalar_count ss)) (x ++ drop (256 * (scalar_count sss + scalar_count ss)) ds)
-        → l ≡ cleared 0 (32 * scalar_count ss) (y ++ drop (32 * scalar_count ss) ls) → after r d l ≡ mixed ts sss ss ps fs ds ls
+        → l ≡ cleared 0 (32 * scalar_count ss) (y ++ drop (32 * scalar_count ss) ls) → after (as_sum (Ok w)) d l ≡ mixed ts sss ss ps fs ds ls
     unfolding mixed mixed_walk
-    done-mixed {w} {r} x y {d} {l} walk sum hx hy hd hl =
-        ap (λ (r : Sum). after r d l) (done-sum passed _ sum (ap (λ (x : Walk). x.element) walk) (ap (λ (x : Walk). x.additions) walk) (ap (λ (x : Walk). x.doublings) walk))
+    done-mixed {w} x y {d} {l} walk hx hy hd hl =
+        ap (λ (r : Sum). after r d l) (done-sum passed _ (ap (λ (x : Walk). x.element) walk) (ap (λ (x : Walk). x.additions) walk) (ap (λ (x : Walk). x.doublings) walk))
         ∙ ap₂ (after _)
         (hd ∙ written (pos 0) _ ds x room.0 hx ∙ sym (ap (λ (n : ℕ). room_after (pos 0) n (256 * (scalar_count sss + scalar_count ss)) ds) passed ∙ room-done (pos 0) _ ds))
         (hl ∙ written 0 _ ls y room.1 hy ∙ sym (ap (λ (n : ℕ). room_after 0 n (32 * scalar_count ss) ls) passed ∙ room-done 0 _ ls))

@@ -2,11 +2,12 @@
 #![tactic(auto)]
 
 ghost use Rattle.std.specs.Prelude.{◌≡◌};
+ghost use Rattle.rules.specs.Results.{as_counted, as_sum};
 ghost use Rattle.rules.specs.Engines.{after, after_new, new_tables, mixed};
 // The most static points: more are refused by 2.
 use crate::lists::Mixed;
 pub use lent::MOST_STATIC;
-use rules::{Counted, Sum, Window};
+use rules::{Counts, Refusal, Walk, Window};
 
 pub(crate) mod lists;
 pub(crate) mod refusals;
@@ -15,15 +16,12 @@ pub(crate) mod refusals;
 pub const TABLE_LIMBS: usize = 256;
 
 // The static tables of points without flags.
-pub fn new(points: &[u64], tables: &mut [u64]) -> Counted
-    ensures { after_new result tables.new ≡ new_tables points.now tables.old }
+pub fn new(points: &[u64], tables: &mut [u64]) -> Result<Counts, Refusal>
+    ensures { after_new (as_counted result) tables.new ≡ new_tables points.now tables.old }
 {
-    let number = crate::refusals::new_refusal(points, tables.len());
-    if number != 0 {
-        return answer::refused_counted(number);
-    }
+    crate::refusals::new_refusal(points, tables.len())?;
     let n = points.len() / 4;
-    answer::counted(laying::windows(points, n, Window::Odd64, &mut *tables))
+    Ok(laying::windows(points, n, Window::Odd64, &mut *tables))
 }
 
 // The sum over static rows on their tables as they stand, and over dynamic pairs.
@@ -35,8 +33,8 @@ pub fn optional_mixed_multiscalar_mul(
     dynamic_flags: &[u8],
     digits: &mut [i8],
     limbs: &mut [u64],
-) -> Sum
-    ensures { after result digits.new limbs.new ≡ mixed tables.now static_scalars.now dynamic_scalars.now dynamic_points.now dynamic_flags.now digits.old limbs.old }
+) -> Result<Walk, Refusal>
+    ensures { after (as_sum result) digits.new limbs.new ≡ mixed tables.now static_scalars.now dynamic_scalars.now dynamic_points.now dynamic_flags.now digits.old limbs.old }
 {
     let lists = Mixed {
         tables,
@@ -45,15 +43,12 @@ pub fn optional_mixed_multiscalar_mul(
         points: dynamic_points,
         flags: dynamic_flags,
     };
-    let number = lists.refusal(digits.len(), limbs.len());
-    if number != 0 {
-        return answer::refused_sum(number);
-    }
+    lists.refusal(digits.len(), limbs.len())?;
     let p = dynamic_scalars.len() / 32;
     let e = 256 * (static_scalars.len() / 32 + p);
     let f = 32 * p;
     let w = lists.walk(&mut digits[..e], &mut limbs[..f]);
     room::clear_digits(&mut *digits, e);
     room::clear_limbs(&mut *limbs, f);
-    answer::sum(w.element, w.additions, w.doublings)
+    Ok(w)
 }

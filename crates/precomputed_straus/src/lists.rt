@@ -1,11 +1,11 @@
 // The lists of a mixed sum: what is asked of them, and the walk over them.
 ghost use Rattle.std.specs.Prelude.{◌≡◌, length};
-ghost use Rattle.rules.specs.Numbers.{first};
+ghost use Rattle.rules.specs.Numbers.{as_number, first};
 ghost use Rattle.rules.specs.Engines.{mixed_lists, mixed_contents, mixed_refusal};
 ghost use Rattle.precomputed_straus.specs.Fill.{Ready, mixed_walk};
 
 use crate::{MOST_STATIC, TABLE_LIMBS};
-use rules::{Row, Walk, Window};
+use rules::{Refusal, Row, Walk, Window};
 
 // Static scalars with the tables of their points, and dynamic scalars with their points and flags.
 #[derive(Clone, Copy)]
@@ -19,59 +19,47 @@ pub(crate) struct Mixed<'a> {
 
 impl<'a> Mixed<'a> {
     // 1 and 2 of a mixed sum.
-    fn lists(self) -> u8
-        ensures { result ≡ first (mixed_lists self.entry.tables.now self.entry.static_scalars.now self.entry.scalars.now self.entry.points.now self.entry.flags.now) }
+    fn lists(self) -> Result<(), Refusal>
+        ensures { as_number result ≡ first (mixed_lists self.entry.tables.now self.entry.static_scalars.now self.entry.scalars.now self.entry.points.now self.entry.flags.now) }
     {
         let cut = lent::not_whole(self.tables.len(), TABLE_LIMBS);
         if cut | lent::not_whole(self.static_scalars.len(), 32) {
-            return 1;
+            return Err(Refusal::NotWhole);
         }
-        let n = asks::lists(self.scalars, self.points, self.flags);
-        if n != 0 {
-            return n;
-        }
+        asks::lists(self.scalars, self.points, self.flags)?;
         let many = lent::too_many(self.tables.len(), TABLE_LIMBS, MOST_STATIC);
         if many | lent::too_many(self.static_scalars.len(), 32, lent::MOST) {
-            return 2;
+            return Err(Refusal::TooMany);
         }
-        0
+        Ok(())
     }
 
     // 6 to 10 of a mixed sum.
-    fn contents(self) -> u8
-        ensures { result ≡ first (mixed_contents self.entry.tables.now self.entry.static_scalars.now self.entry.scalars.now self.entry.points.now self.entry.flags.now) }
+    fn contents(self) -> Result<(), Refusal>
+        ensures { as_number result ≡ first (mixed_contents self.entry.tables.now self.entry.static_scalars.now self.entry.scalars.now self.entry.points.now self.entry.flags.now) }
     {
         if lent::any_big(self.static_scalars) {
-            return 6;
+            return Err(Refusal::BigScalar);
         }
-        let n = asks::contents(self.scalars, self.points, self.flags, self.points.len() / 4);
-        if n != 0 {
-            return n;
-        }
+        asks::contents(self.scalars, self.points, self.flags, self.points.len() / 4)?;
         let untabled = self.tables.len() / TABLE_LIMBS < self.static_scalars.len() / 32;
         if untabled | (self.scalars.len() / 32 != self.points.len() / 4) {
-            return 9;
+            return Err(Refusal::Unequal);
         }
         if lent::any_over(self.tables) {
-            return 10;
+            return Err(Refusal::BadDigit);
         }
-        0
+        Ok(())
     }
 
-    // The number that a mixed sum answers.
-    pub(crate) fn refusal(self, digits: usize, limbs: usize) -> u8
-        ensures { result ≡ mixed_refusal self.entry.tables.now self.entry.static_scalars.now self.entry.scalars.now self.entry.points.now self.entry.flags.now digits limbs }
+    // What a mixed sum asks, and the refusal where it is not so.
+    pub(crate) fn refusal(self, digits: usize, limbs: usize) -> Result<(), Refusal>
+        ensures { as_number result ≡ mixed_refusal self.entry.tables.now self.entry.static_scalars.now self.entry.scalars.now self.entry.points.now self.entry.flags.now digits limbs }
     {
-        let n = self.lists();
-        if n != 0 {
-            return n;
-        }
+        self.lists()?;
         let p = self.scalars.len() / 32;
         let rows = self.static_scalars.len() / 32 + p;
-        let k = asks::room(256 * rows, digits, 32 * p, limbs);
-        if k != 0 {
-            return k;
-        }
+        asks::room(256 * rows, digits, 32 * p, limbs)?;
         self.contents()
     }
 

@@ -6,17 +6,18 @@ use native.Mathlib.Nat.{zero-add}
 use native.Mathlib.Omega.{arith}
 use lib.ListN.{length}
 use lib.IntN.{ℤ}
+use Rattle.std.specs.Prelude.{Ok}
 use Rattle.rules.specs.declared.Element.{Element}
 use Rattle.rules.specs.declared.Counts.{Counts}
 use Rattle.rules.specs.declared.Walk.{Walk}
-use Rattle.rules.specs.declared.Sum.{Sum}
 use Rattle.rules.specs.Values.{element_of, part, element_at, point_at, scalar_at}
 use Rattle.rules.specs.Group.{L, elements, total}
 use Rattle.rules.specs.Numbers.{scalar_bound}
 use Rattle.rules.specs.Rows.{not_long, width_off, radix_row, radix_row_of}
 use Rattle.rules.specs.Windows.{successive}
 use Rattle.rules.specs.Engines.{single_refusal, single}
-use Rattle.rules.specs.Helpers.{sum_done, elements_flat, Made, made_successive}
+use Rattle.rules.specs.Helpers.{elements_flat, Made, made_successive}
+use Rattle.rules.specs.Results.{as_sum}
 use Rattle.laws.specs.Conditions.{or_split, first-none}
 use Rattle.limbs.proofs.Done.{done-sum}
 use Rattle.laws.proofs.Puts.{put_same}
@@ -73,10 +74,10 @@ module _ (p s : List ℕ) where
         radix16-walked-from _ (λ _. element_at p 0) (λ _. scalar_at s 0) 1 (λ i _. r.member) (λ i _. r.small_one) (λ i j _ _. rw (e, f) refl)
         ∙ ap (λ (x : ℕ). element_of (x % L)) (zero-add _)
 
-    pub answered : {x : Element} {c : Counts} {w : List ℕ} (l : List ℕ) {row : List ℤ} {k : Walk} {r : Sum} → x ≡ element_at p 0 → length l ≡ 32
+    pub answered : {x : Element} {c : Counts} {w : List ℕ} (l : List ℕ) {row : List ℤ} {k : Walk} → x ≡ element_at p 0 → length l ≡ 32
         → record { counts = c; limbs = w } ≡ made_successive 8 x l → row ≡ radix_row_of s 4 → k ≡ walked_down row w
-        → r ≡ sum_done k.element (c.additions + k.additions) (c.doublings + k.doublings) → r ≡ single p s
+        → as_sum (Ok (record { element = k.element; additions = c.additions + k.additions; doublings = c.doublings + k.doublings })) ≡ single p s
     unfolding single
-    answered {x} {c} {w} l {row} {k} e long m f g h =
+    answered {x} {c} {w} l {row} {k} e long m f g =
         let n = counts-are x c w l row k m g in
-        done-sum z _ h (ap (λ (t : Walk). t.element) g ∙ walk_is (f ∙ row_is) (window-is x c w l e long m)) n.0 n.1
+        done-sum z _ (ap (λ (t : Walk). t.element) g ∙ walk_is (f ∙ row_is) (window-is x c w l e long m)) n.0 n.1

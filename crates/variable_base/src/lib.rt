@@ -2,10 +2,12 @@
 #![tactic(auto)]
 
 ghost use Rattle.std.specs.Prelude.{◌≡◌};
+ghost use Rattle.rules.specs.Numbers.{as_number};
+ghost use Rattle.rules.specs.Results.{as_sum};
 ghost use Rattle.rules.specs.Engines.{single_refusal, single};
 ghost use Rattle.variable_base.specs.Walked.{walked_down};
 
-use rules::{Sum, Walk};
+use rules::{Refusal, Walk};
 
 // The last digit's entry, and from the place below it down four doublings and that digit's entry.
 fn walk(row: [i8; 64], window: &[u64]) -> Walk
@@ -32,30 +34,27 @@ fn walk(row: [i8; 64], window: &[u64]) -> Walk
 }
 
 // The number that the call answers.
-fn refusal(point: &[u64], scalar: &[u8]) -> u8
-    ensures { result ≡ single_refusal point.now scalar.now }
+fn refusal(point: &[u64], scalar: &[u8]) -> Result<(), Refusal>
+    ensures { as_number result ≡ single_refusal point.now scalar.now }
 {
     if (point.len() != 4) | (scalar.len() != 32) {
-        return 1;
+        return Err(Refusal::NotWhole);
     }
     asks::plain_contents(scalar, point)
 }
 
 // Single base.
-pub fn mul(point: &[u64], scalar: &[u8]) -> Sum
-    ensures { result ≡ single point.now scalar.now }
+pub fn mul(point: &[u64], scalar: &[u8]) -> Result<Walk, Refusal>
+    ensures { as_sum result ≡ single point.now scalar.now }
 {
-    let n = refusal(point, scalar);
-    if n != 0 {
-        return answer::refused_sum(n);
-    }
+    refusal(point, scalar)?;
     let mut window = [0u64; 32];
     let made = window::make_successive(flat::element_at(point, 0), &mut window);
     let row = radix::radix_row(scalar, 4);
     let w = walk(row, &window);
-    answer::sum(
-        w.element,
-        made.additions + w.additions,
-        made.doublings + w.doublings,
-    )
+    Ok(Walk {
+        element: w.element,
+        additions: made.additions + w.additions,
+        doublings: made.doublings + w.doublings,
+    })
 }

@@ -2,9 +2,11 @@
 #![tactic(auto)]
 
 ghost use Rattle.std.specs.Prelude.{◌≡◌, length};
+ghost use Rattle.rules.specs.Numbers.{as_number};
+ghost use Rattle.rules.specs.Results.{as_sum};
 ghost use Rattle.rules.specs.Engines.{double_refusal, start_place, double};
 
-use rules::Sum;
+use rules::{Refusal, Walk};
 
 pub(crate) mod basepoint;
 
@@ -30,35 +32,32 @@ fn start(a: &[i8], b: &[i8]) -> usize
 }
 
 // The number that the call answers.
-fn refusal(a: &[u8], point: &[u64], b: &[u8]) -> u8
-    ensures { result ≡ double_refusal a.now point.now b.now }
+fn refusal(a: &[u8], point: &[u64], b: &[u8]) -> Result<(), Refusal>
+    ensures { as_number result ≡ double_refusal a.now point.now b.now }
 {
     if (a.len() != 32) | (point.len() != 4) | (b.len() != 32) {
-        return 1;
+        return Err(Refusal::NotWhole);
     }
     if lent::any_big(a) {
-        return 6;
+        return Err(Refusal::BigScalar);
     }
     asks::plain_contents(b, point)
 }
 
 // Double base.
-pub fn mul(a: &[u8], point: &[u64], b: &[u8]) -> Sum
-    ensures { result ≡ double a.now point.now b.now }
+pub fn mul(a: &[u8], point: &[u64], b: &[u8]) -> Result<Walk, Refusal>
+    ensures { as_sum result ≡ double a.now point.now b.now }
 {
-    let number = refusal(a, point, b);
-    if number != 0 {
-        return answer::refused_sum(number);
-    }
+    refusal(a, point, b)?;
     let a_naf = scalar::naf_row(a, 5);
     let b_naf = scalar::naf_row(b, 8);
     let i = start(&a_naf, &b_naf);
     let mut window = [0u64; 32];
     let made = window::make_odd8(flat::element_at(point, 0), &mut window);
     let w = crate::basepoint::walk(&a_naf, &window, &b_naf, i + 1);
-    answer::sum(
-        w.element,
-        made.additions + w.additions,
-        made.doublings + w.doublings,
-    )
+    Ok(Walk {
+        element: w.element,
+        additions: made.additions + w.additions,
+        doublings: made.doublings + w.doublings,
+    })
 }

@@ -3,6 +3,8 @@ use mathlib.Core.Path.{◌≡◌, refl, sym, ◌∙◌}
 use Prim.Native.Nat.{ℕ}
 use mathlib.Core.List.{List}
 use native.Mathlib.Omega.{arith}
+use Rattle.std.proofs.lemmas.Result.{err_from_is_err_and}
+use Rattle.laws.specs.Results.{passed-as-0, handed-on}
 use Rattle.rules.specs.Lists.{pairs}
 use Rattle.rules.specs.Engines.{bucket_width, picked_by, pippenger_refusal}
 use Rattle.laws.specs.BucketWalk.{wide}
@@ -15,29 +17,32 @@ use Rattle.pippenger.proofs.optional_multiscalar_mul.Goals as goal
 passed : {ss ps : List ℕ} (fs : List ℕ) {m w n d b : ℕ} → m ≡ pairs ss ps → w ≡ bucket_width (picked_by ss) → n ≡ pippenger_refusal ss ps fs d b → n ≡ 0 → Ready ss ps m w d b
 passed fs em ew en z = ready fs em ew (sym en ∙ z)
 
-pub returns-then-n-ne0 : goal.returns-then-n-ne0
-returns-then-n-ne0 c = refused-after _ _ _ _ _ c.refusal-n.ensures c.if-n-ne0.true c.refused_sum.ensures
+pub returns-in_err-refusal : goal.returns-in_err-refusal
+returns-in_err-refusal c =
+    let p = err_from_is_err_and c.from_residual.result c.from_residual.ensures.1 in
+    let r = handed-on p.1 p.2 c.in_err-refusal.was c.refusal.ensures in
+    refused-after _ _ _ _ _ r
 
 pub walk-q-requires : goal.walk-q-requires
 unfolding picked_by
-walk-q-requires c = walkable (passed _ c.pairs-m.ensures c.width-w.ensures c.refusal-n.ensures c.if-n-ne0.false) _ refl c.rows.ensures
+walk-q-requires c = walkable (passed _ c.pairs-m.ensures c.width-w.ensures c.refusal.ensures (passed-as-0 c.in_ok-refusal.was)) _ refl c.rows.ensures
 
 pub overflow_mul-m : goal.overflow_mul-m
 unfolding picked_by
-overflow_mul-m c = let p = passed _ c.pairs-m.ensures c.width-w.ensures c.refusal-n.ensures c.if-n-ne0.false in omega (arith, p.few)
+overflow_mul-m c = let p = passed _ c.pairs-m.ensures c.width-w.ensures c.refusal.ensures (passed-as-0 c.in_ok-refusal.was) in omega (arith, p.few)
 
 pub buckets_count-requires : goal.buckets_count-requires
 unfolding picked_by
-buckets_count-requires c = let p = passed _ c.pairs-m.ensures c.width-w.ensures c.refusal-n.ensures c.if-n-ne0.false in (p.low, p.high)
+buckets_count-requires c = let p = passed _ c.pairs-m.ensures c.width-w.ensures c.refusal.ensures (passed-as-0 c.in_ok-refusal.was) in (p.low, p.high)
 
 pub overflow_mul-buckets_count : goal.overflow_mul-buckets_count
 unfolding picked_by
 overflow_mul-buckets_count c =
-    let p = passed _ c.pairs-m.ensures c.width-w.ensures c.refusal-n.ensures c.if-n-ne0.false in
+    let p = passed _ c.pairs-m.ensures c.width-w.ensures c.refusal.ensures (passed-as-0 c.in_ok-refusal.was) in
     omega (arith, c.buckets_count.ensures, (wide _ p.low p.high).buckets)
 
 pub returns : goal.returns
 unfolding picked_by
 returns c =
-    done-after _ _ _ _ _ c.refusal-n.ensures c.if-n-ne0.false c.pairs-m.ensures c.width-w.ensures (passed _ c.pairs-m.ensures c.width-w.ensures c.refusal-n.ensures c.if-n-ne0.false)
-    c.rows.ensures c.walk-q.ensures c.clear_digits.ensures c.buckets_count.ensures c.clear_limbs.ensures c.sum.ensures
+    done-after _ _ _ _ _ (sym c.refusal.ensures ∙ passed-as-0 c.in_ok-refusal.was) c.pairs-m.ensures c.width-w.ensures (passed _ c.pairs-m.ensures c.width-w.ensures c.refusal.ensures (passed-as-0 c.in_ok-refusal.was))
+    c.rows.ensures c.walk-q.ensures c.clear_digits.ensures c.buckets_count.ensures c.clear_limbs.ensures

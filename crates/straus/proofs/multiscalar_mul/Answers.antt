@@ -24,16 +24,16 @@ overflow_mul-m c = omega (arith, (radix-ok _ _ c.args.digits.now c.args.limbs.no
 pub overflow_mul-m-2 : goal.overflow_mul-m-2
 overflow_mul-m-2 c = omega (arith, (radix-ok _ _ c.args.digits.now c.args.limbs.now c.pairs-m.ensures (sym c.refusal.ensures ∙ passed-as-0 c.in_ok-refusal.was)).few)
 
-pub overflow_add-made : goal.overflow_add-made
-overflow_add-made c =
+pub overflow_add-result : goal.overflow_add-result
+overflow_add-result c =
     omega (
       arith,
       radix-counts _ _ _ _ c.pairs-m.ensures (sym c.refusal.ensures ∙ passed-as-0 c.in_ok-refusal.was) c.rows.ensures c.windows-made.ensures c.walk-w.ensures,
       (radix-ok _ _ c.args.digits.now c.args.limbs.now c.pairs-m.ensures (sym c.refusal.ensures ∙ passed-as-0 c.in_ok-refusal.was)).few,
     )
 
-pub overflow_add-made-2 : goal.overflow_add-made-2
-overflow_add-made-2 c = omega (arith, radix-counts _ _ _ _ c.pairs-m.ensures (sym c.refusal.ensures ∙ passed-as-0 c.in_ok-refusal.was) c.rows.ensures c.windows-made.ensures c.walk-w.ensures)
+pub overflow_add-result-2 : goal.overflow_add-result-2
+overflow_add-result-2 c = omega (arith, radix-counts _ _ _ _ c.pairs-m.ensures (sym c.refusal.ensures ∙ passed-as-0 c.in_ok-refusal.was) c.rows.ensures c.windows-made.ensures c.walk-w.ensures)
 
 pub returns : goal.returns
 returns c = radix-done _ _ _ _ c.pairs-m.ensures (sym c.refusal.ensures ∙ passed-as-0 c.in_ok-refusal.was) c.rows.ensures c.windows-made.ensures c.walk-w.ensures c.clear_digits.ensures c.clear_limbs.ensures

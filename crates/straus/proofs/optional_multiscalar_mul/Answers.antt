@@ -39,14 +39,14 @@ slice_bounds-windows-end-2 c =
     let long : 32 * c.pairs-m.result ≤ length c.windows-made.new.limbs = rw c.windows-made.auto.limbs (naf-ok _ _ _ c.args.digits.now c.args.limbs.now c.pairs-m.ensures (sym c.refusal.ensures ∙ passed-as-0 c.in_ok-refusal.was)).limbs in
     sym (length-take-le _ _ long)
 
-pub overflow_add-made : goal.overflow_add-made
-overflow_add-made c =
+pub overflow_add-result : goal.overflow_add-result
+overflow_add-result c =
     let few = naf-ok _ _ _ c.args.digits.now c.args.limbs.now c.pairs-m.ensures (sym c.refusal.ensures ∙ passed-as-0 c.in_ok-refusal.was) in
     let n = naf-counts _ _ _ _ _ c.pairs-m.ensures (sym c.refusal.ensures ∙ passed-as-0 c.in_ok-refusal.was) (λ i. (c.type_inv.points i).fits) c.rows.ensures c.windows-made.ensures c.walk-w.ensures in
     record { fits = omega (arith, n, few.few) }
 
-pub overflow_add-made-2 : goal.overflow_add-made-2
-overflow_add-made-2 c =
+pub overflow_add-result-2 : goal.overflow_add-result-2
+overflow_add-result-2 c =
     let few = naf-ok _ _ _ c.args.digits.now c.args.limbs.now c.pairs-m.ensures (sym c.refusal.ensures ∙ passed-as-0 c.in_ok-refusal.was) in
     let n = naf-counts _ _ _ _ _ c.pairs-m.ensures (sym c.refusal.ensures ∙ passed-as-0 c.in_ok-refusal.was) (λ i. (c.type_inv.points i).fits) c.rows.ensures c.windows-made.ensures c.walk-w.ensures in
     record { fits = omega (arith, n, few.few) }

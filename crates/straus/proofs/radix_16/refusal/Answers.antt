@@ -38,4 +38,4 @@ pub returns : goal.returns
 unfolding radix_straus_refusal
 returns c =
     joined-next _ _ (omega arith) c.plain_lists.ensures (passed-as-0 c.in_ok-plain_lists.was)
-    (joined-next _ _ (omega arith) (room-is _ _ (ap (◌*◌ 64) c.pairs-m.ensures) (ap (◌*◌ 32) c.pairs-m.ensures) c.room-k.ensures) (passed-as-0 c.in_ok-room.was) c.plain_contents.ensures)
+    (joined-next _ _ (omega arith) (room-is _ _ (ap (◌*◌ 64) c.pairs-m.ensures) (ap (◌*◌ 32) c.pairs-m.ensures) c.room.ensures) (passed-as-0 c.in_ok-room.was) c.plain_contents.ensures)
