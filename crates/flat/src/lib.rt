@@ -19,14 +19,14 @@ fn limb_at(l: &[u64], i: usize, c: usize) -> u64
     ensures { result ≡ get_or l.now (4 * i + c) 0 }
 {
     if i < l.len() {
-        let k = 4 * i + c;
-        if k < l.len() { l[k] } else { 0 }
+        l.get(4 * i + c).copied().unwrap_or(0)
     } else {
         0
     }
 }
 
 // Element i where the list ends within it, or before it.
+#[tactic(auto, unfolding(rules::specs::Values::element_at))]
 fn last_at(l: &[u64], i: usize) -> Element
     ensures { result ≡ element_at l.now i }
 {
@@ -39,6 +39,7 @@ fn last_at(l: &[u64], i: usize) -> Element
 }
 
 // Element i of flat limbs, 0 past their end.
+#[tactic(auto, unfolding(rules::specs::Values::element_at))]
 pub fn element_at(l: &[u64], i: usize) -> Element
     ensures { result ≡ element_at l.now i }
 {

@@ -1,2 +1,3 @@
 pub mod TopByte
 pub mod Passed
+mod Search

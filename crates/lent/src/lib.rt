@@ -15,16 +15,15 @@ pub const MOST_STATIC: usize = 64;
 const TOP: u8 = 127;
 
 // 1: whether a list is not in units.
+#[tactic(auto, unfolding(rules::specs::Lists::not_in))]
 pub fn not_whole(len: usize, unit: usize) -> bool
     ensures { result ≡ not_in unit len }
 {
-    if unit == 0 {
-        return len != 0;
-    }
-    len % unit != 0
+    !len.is_multiple_of(unit)
 }
 
 // 2: whether a list holds over the limit of units.
+#[tactic(auto, unfolding(rules::specs::Lists::beyond_most))]
 pub fn too_many(len: usize, unit: usize, limit: usize) -> bool
     ensures { result ≡ beyond_most limit unit len }
 {
@@ -38,10 +37,11 @@ pub fn too_many(len: usize, unit: usize, limit: usize) -> bool
 pub fn smaller(a: usize, b: usize) -> usize
     ensures { result ≡ min a b }
 {
-    if a < b { a } else { b }
+    a.min(b)
 }
 
 // m, the smaller of the two counts.
+#[tactic(auto, unfolding(rules::specs::Lists::pairs))]
 pub fn pairs(scalars: &[u8], points: &[u64]) -> usize
     ensures { result ≡ pairs scalars.now points.now }
 {
@@ -52,28 +52,12 @@ pub fn pairs(scalars: &[u8], points: &[u64]) -> usize
 pub fn any_big(scalars: &[u8]) -> bool
     ensures { result ≡ any_big scalars.now }
 {
-    let n = scalars.len() / 32;
-    let mut i: usize = 0;
-    while i < n {
-        if TOP < scalars[32 * i + 31] {
-            return true;
-        }
-        i += 1;
-    }
-    false
+    (0..scalars.len() / 32).any(|i| TOP < scalars[32 * i + 31])
 }
 
 // 7 or 10: whether an element of flat limbs is at or above L.
 pub fn any_over(limbs: &[u64]) -> bool
     ensures { result ≡ any_over limbs.now }
 {
-    let n = limbs.len() / 4;
-    let mut i: usize = 0;
-    while i < n {
-        if residue::over(flat::element_at(limbs, i)) {
-            return true;
-        }
-        i += 1;
-    }
-    false
+    (0..limbs.len() / 4).any(|i| residue::over(flat::element_at(limbs, i)))
 }

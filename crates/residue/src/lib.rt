@@ -9,6 +9,7 @@ ghost use Rattle.rules.specs.Loops.{doubled};
 use rules::Element;
 
 // The order L of the group.
+#[tactic(auto, unfolding(rules::specs::Group::L, rules::specs::Values::element_of))]
 pub fn order() -> Element
     ensures { result ≡ element_of L }
 {
@@ -21,6 +22,7 @@ pub fn order() -> Element
 }
 
 // The identity, 0.
+#[tactic(auto, unfolding(rules::specs::Values::element_of))]
 pub fn identity() -> Element
     ensures { result ≡ element_of 0 }
 {
@@ -33,6 +35,7 @@ pub fn identity() -> Element
 }
 
 // Whether an element is at or above L.
+#[tactic(auto, using(crate::proofs::Reduction::order_is))]
 pub fn over(a: Element) -> bool
     ensures { result ≡ leb L (value_of a) }
 {
@@ -40,6 +43,7 @@ pub fn over(a: Element) -> bool
 }
 
 // The sum of two elements, for any limbs.
+#[tactic(auto, using(crate::proofs::Reduction::order_is))]
 pub fn plus(a: Element, b: Element) -> Element
     ensures { result ≡ added a b }
 {
@@ -47,6 +51,7 @@ pub fn plus(a: Element, b: Element) -> Element
 }
 
 // The difference of two elements, for any limbs.
+#[tactic(auto, using(crate::proofs::Reduction::order_is))]
 pub fn minus(a: Element, b: Element) -> Element
     ensures { result ≡ subtracted a b }
 {
@@ -54,6 +59,7 @@ pub fn minus(a: Element, b: Element) -> Element
 }
 
 // The inverse of an element, for any limbs.
+#[tactic(auto, unfolding(rules::specs::Group::negated_modulo))]
 pub fn negative(a: Element) -> Element
     ensures { result ≡ negated a }
 {
@@ -73,10 +79,8 @@ pub fn mul_by_pow_2(a: Element, k: usize) -> Element
     ensures { result ≡ doubled elements k a }
 {
     let mut q = a;
-    let mut i: usize = 0;
-    while i < k {
+    for _ in 0..k {
         q = twice(q);
-        i += 1;
     }
     q
 }

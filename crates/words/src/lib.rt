@@ -10,21 +10,15 @@ use rules::Element;
 pub fn byte_at(bytes: &[u8], k: usize) -> u8
     ensures { result ≡ get_or bytes.now k 0 }
 {
-    if k < bytes.len() { bytes[k] } else { 0 }
+    bytes.get(k).copied().unwrap_or(0)
 }
 
 // Limb i of what the bytes say: eight of them, lowest first.
 fn limb_of(bytes: &[u8], i: usize) -> u64
     requires { i < 4 }
-    ensures { (result ≡ number 256 (take 8 (drop (8 * i) bytes.now))) × (result < limb) }
+    ensures { result ≡ number 256 (take 8 (drop (8 * i) bytes.now)) }
 {
-    let mut x: u64 = 0;
-    let mut k: usize = 8;
-    while 0 < k {
-        k -= 1;
-        x = x * 256 + (byte_at(bytes, 8 * i + k) as u64);
-    }
-    x
+    u64::from_le_bytes(std::array::from_fn(|k| byte_at(bytes, 8 * i + k)))
 }
 
 // The first 32 bytes as four limbs; bytes past their end are 0.
@@ -43,11 +37,7 @@ pub fn element(bytes: &[u8]) -> Element
 pub fn byte_of(x: u64, k: usize) -> u8
     ensures { result ≡ x / 2 ^ (8 * k) % 256 }
 {
-    if k < 8 {
-        ((x >> (8 * k)) & 255) as u8
-    } else {
-        0
-    }
+    byte_at(&x.to_le_bytes(), k)
 }
 
 // The 32 bytes of the first four limbs; limbs past their end are 0.
@@ -55,9 +45,5 @@ pub fn bytes(list: &[u64]) -> [u8; 32]
     ensures { result ≡ places 256 32 (point_at list.now 0) }
 {
     let x = flat::array(flat::element_at(list, 0));
-    let mut bytes = [0u8; 32];
-    for k in 0..32 {
-        bytes[k] = byte_of(x[k / 8], k % 8);
-    }
-    bytes
+    std::array::from_fn(|k| byte_of(x[k / 8], k % 8))
 }

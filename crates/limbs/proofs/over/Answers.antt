@@ -3,4 +3,4 @@ use Rattle.limbs.proofs.Modulo.{reaches}
 use Rattle.limbs.proofs.over.Goals as goal
 
 pub returns : goal.returns
-returns c = reaches _ _ _ c.difference-d.ensures
+returns c = reaches _ _ _ c.difference.ensures

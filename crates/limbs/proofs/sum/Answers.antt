@@ -1,12 +1,12 @@
 -- Four steps make the sum and its carry.
+use Rattle.std.proofs.Common.{arith}
 use Rattle.limbs.proofs.Carries.{sum_is}
 use Rattle.limbs.proofs.sum.Goals as goal
 
 pub returns : goal.returns
 returns c =
-    let x0 = c.add_limb-x0 in
-    let x1 = c.add_limb-x1 in
-    let x2 = c.add_limb-x2 in
-    let x3 = c.add_limb-x3 in
-    sum_is _ _ _ x0.result.carry x1.result.carry x2.result.carry _ (record { r0 = x0.ensures.1; r1 = x1.ensures.1; r2 = x2.ensures.1; r3 = x3.ensures.1 })
-    x0.ensures.0 x1.ensures.0 x2.ensures.0 x3.ensures.0
+    let x0 = c.carrying_add-l0 in
+    let x1 = c.carrying_add-l1 in
+    let x2 = c.carrying_add-l2 in
+    let x3 = c.carrying_add-l3 in
+    sum_is _ _ _ x0.result.1 x1.result.1 x2.result.1 _ (record { r0 = omega arith; r1 = omega arith; r2 = omega arith; r3 = omega arith }) x0.ensures x1.ensures x2.ensures x3.ensures

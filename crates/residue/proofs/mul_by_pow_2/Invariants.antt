@@ -1,12 +1,8 @@
--- After i turns the element has been doubled i times.
-use mathlib.Core.Path.{◌≡◌}
-use Prim.Native.Nat.{◌≤◌, ◌-◌}
+-- After so many turns the element has been doubled as often.
+use Rattle.std.proofs.Common.{◌≡◌}
 use Rattle.rules.specs.Group.{elements}
 use Rattle.rules.specs.Loops.{doubled}
 use Rattle.residue.proofs.mul_by_pow_2.Given as goal
 
-abbrev pub invariant-loop-i : goal.invariant-loop-i
-invariant-loop-i l = (l.i ≤ l.k) × (l.q ≡ doubled elements l.i l.initial.q)
-
-abbrev pub decreases-loop-i : goal.decreases-loop-i
-decreases-loop-i l = l.k - l.i
+abbrev pub invariant-loop : goal.invariant-loop
+invariant-loop l = l.q ≡ doubled elements l.counter l.initial.q

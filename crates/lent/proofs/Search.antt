@@ -1,0 +1,31 @@
+-- A search over a range of places, lowest first, and `any_below`, which looks at the highest last.
+use Rattle.std.proofs.Common.{◌≡◌, ℕ, zero, suc, ◌+◌, Bool, ◌||◌, refl, sym, ap, ◌∙◌, arith}
+use Rattle.std.proofs.Math.Bool.{true, false}
+use Rattle.std.specs.List.{list_any, range_with_len}
+use Rattle.rules.specs.Numbers.{any_below}
+
+or-false : (b : Bool) → b ≡ (b || false)
+or-false true = refl
+or-false false = refl
+
+or_assoc : (a b c : Bool) → ((a || b) || c) ≡ (a || (b || c))
+or_assoc true b c = refl
+or_assoc false b c = refl
+
+-- the lowest place first
+front : (g : ℕ → Bool) (n : ℕ) → any_below g (suc n) ≡ (g 0 || any_below (λ i. g (suc i)) n)
+unfolding any_below
+front g zero = or-false (g 0)
+front g (suc n) = ap (λ (b : Bool). b || g (suc n)) (front g n) ∙ or_assoc (g 0) (any_below (λ i. g (suc i)) n) (g (suc n))
+
+from : (f g : ℕ → Bool) (a n : ℕ) → ((i : ℕ) → g i ≡ f (a + i)) → list_any f (range_with_len a n) ≡ any_below g n
+unfolding any_below
+from f g a zero h = refl
+from f g a (suc n) h =
+    let e : f a ≡ g 0 = ap f (omega arith) ∙ sym (h 0) in
+    let r : list_any f (range_with_len (a + 1) n) ≡ any_below (λ i. g (suc i)) n = from f (λ i. g (suc i)) (a + 1) n (λ i. h (suc i) ∙ ap f (omega arith)) in
+    rw (e, r) (sym (front g n))
+
+-- places 0 to n - 1
+pub places-below : (f g : ℕ → Bool) (n : ℕ) → ((i : ℕ) → g i ≡ f i) → list_any f (range_with_len 0 n) ≡ any_below g n
+places-below f g n h = from f g 0 n (λ i. h i ∙ ap f (omega arith))
