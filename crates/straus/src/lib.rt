@@ -20,7 +20,7 @@ pub fn multiscalar_mul(scalars: &[u8], points: &[u64], digits: &mut [i8], limbs:
     let m = lent::pairs(scalars, points);
     laying::rows(scalars, m, Row::Radix(4), &mut *digits);
     let made = laying::windows(points, m, Window::Successive8, &mut *limbs);
-    let w = crate::radix_16::walk(digits, limbs, m);
+    let w = crate::radix_16::walk(&digits[..64 * m], &limbs[..32 * m]);
     room::clear_digits(&mut *digits, 64 * m);
     room::clear_limbs(&mut *limbs, 32 * m);
     answer::sum(
