@@ -30,7 +30,7 @@ module _ {A : Type 0} (n : ℕ) (xs : List A) where
 
   module _ (s t : ChunksExact A) (i : ℕ) (h : Taken s i) where
     -- the next is part i
-    pub taken-more : (x : Bor (List A)) → chunks_exact_steps s (Some x) t → (x.now ≡ part n i xs) × (n * i + n ≤ length xs) × Taken t (i + 1)
+    pub taken-more : (x : Bor (List A)) → chunks_exact_steps s (Some x) t → (x.now ≡ part n i xs) × Taken t (i + 1)
     unfolding part
     taken-more x steps =
         let long : length x.now ≡ n = steps.1.1 ∙ h.size in
@@ -38,7 +38,6 @@ module _ {A : Type 0} (n : ℕ) (xs : List A) where
         let fits : n * i + n ≤ length xs = omega (arith, ap length cut, length-append x.now (chunks_exact_rest t), length-drop (n * i) xs, h.within, long) in
         let next : n * (i + 1) ≡ n * i + n = ap (◌*◌ n) (add-one i) ∙ mul-suc n i in (
           sym (take_at x.now (chunks_exact_rest t) n long) ∙ ap (take n) cut,
-          fits,
           record {
             size = steps.0 ∙ h.size;
             rest = sym (drop_at x.now (chunks_exact_rest t) n long) ∙ ap (drop n) cut ∙ drop-drop n (n * i) xs ∙ ap (λ (k : ℕ). drop k xs) (sym next);
@@ -84,7 +83,6 @@ module _ {A B : Type 0} (u : ℕ) (xs : List A) (n : ℕ) (ys : List B) where
   pub record Next (x : Bor (List A) × Bor (List B)) (t : Side) (i : ℕ) : Type 0 where
     pub first_is : x.0.now ≡ part u i xs
     pub second_is : x.1.now ≡ part n i ys
-    pub first-fits : u * i + u ≤ length xs
     pub beside : Beside t (i + 1)
 
   module _ (z t : Side) (i : ℕ) (h : Beside z i) (r : Option (Bor (List A) × Bor (List B))) (stepped : steps z r t) where
@@ -93,7 +91,7 @@ module _ {A B : Type 0} (u : ℕ) (xs : List A) (n : ℕ) (ys : List B) where
         let s : steps z (Some x) t = subst (λ (o : Option (Bor (List A) × Bor (List B))). steps z o t) e stepped in
         let a = taken-more u xs (zip_first z) (zip_first t) i h.first x.0 s.0 in
         let b = taken-more n ys (zip_second z) (zip_second t) i h.second x.1 s.1 in
-        record { first_is = a.0; second_is = b.0; first-fits = a.1; beside = record { first = a.2; second = b.2 } }
+        record { first_is = a.0; second_is = b.0; beside = record { first = a.1; second = b.1 } }
 
     -- there is no more: i is how many there are
     pub beside-all : 0 < u → 0 < n → r ≡ None → i ≡ sides
