@@ -1,3 +1,4 @@
+pub mod Chunks
 pub mod Entries
 pub mod Under
 pub mod Walked

@@ -1,7 +1,7 @@
--- A sum on its way down the columns, with the additions made so far.
+-- A walk's sum on its way down the columns, with the additions made so far.
 use Rattle.rules.specs.declared.Element.{Element}
+use Rattle.rules.specs.declared.Walk.{Walk}
 use Rattle.laws.specs.Running.{Run, running}
-use Rattle.columns.specs.declared.Running.{Running}
 
-abbrev pub run : Running → Run Element
-run q = running q.element q.additions
+abbrev pub run : Walk → Run Element
+run w = running w.element w.additions

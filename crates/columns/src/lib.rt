@@ -1,79 +1,69 @@
 // The walk down the columns of NAF rows.
 #![tactic(auto)]
 
-ghost use Rattle.std.specs.Prelude.{◌≡◌, ◌+◌, ◌/◌, ◌^◌, ◌<◌, min, length};
+ghost use Rattle.std.specs.Prelude.{◌≡◌, ◌+◌, ◌^◌, ◌<◌, length};
 ghost use Rattle.rules.specs.Values.{element_at};
 ghost use Rattle.rules.specs.Rows.{digit};
 ghost use Rattle.rules.specs.Loops.{nonzero, odd_entry};
+ghost use Rattle.rules.specs.Batch.{slot_digit};
 ghost use Rattle.rules.specs.Group.{elements};
-ghost use Rattle.rules.specs.Helpers.{window_entry, walked};
-ghost use Rattle.laws.specs.Running.{onward, passed, Passable};
+ghost use Rattle.rules.specs.Helpers.{window_entry, windowed_rows, walked};
+ghost use Rattle.laws.specs.Weight.{column_weight};
+ghost use Rattle.laws.specs.Running.{onward, passed};
 ghost use Rattle.columns.specs.Running.{run};
 
-use rules::{Element, Walk};
+use rules::Walk;
 
-// A sum on its way down the columns, and the additions made so far.
-#[derive(Clone, Copy)]
-pub(crate) struct Running {
-    element: Element,
-    additions: u64,
-}
-
-// One row's digit at place j: its entry is added, taken away where it is negative, left out where it is 0.
-pub(crate) fn moved(q: Running, row: &[i8], window: &[u64], j: usize) -> Running
-    requires { (j < length row.now) × (q.additions + nonzero (digit row.now j) < 2 ^ 64) }
-    ensures { run result ≡ onward elements (digit row.now j) (element_at window.now (odd_entry (digit row.now j))) (run q) }
+// w with one row's digit at place j: its entry is added, taken away where it is negative, left out where it is 0.
+pub(crate) fn moved(w: Walk, row: &[i8], window: &[u64], j: usize) -> Walk
+    requires place { j < length row.now }
+    requires count { w.additions + nonzero (digit row.now j) < 2 ^ 64 }
+    ensures sum { run result ≡ onward elements (digit row.now j) (element_at window.now (odd_entry (digit row.now j))) (run w) }
+    ensures doublings { result.doublings ≡ w.doublings }
 {
     let d = row[j];
     if d == 0 {
-        return q;
+        return w;
     }
     let x = flat::element_at(window, digit::odd_entry(d));
-    let e = q.element;
-    let n = q.additions + 1;
+    let additions = w.additions + 1;
     if d < 0 {
-        return Running {
-            element: residue::minus(e, x),
-            additions: n,
+        return Walk {
+            element: residue::minus(w.element, x),
+            additions,
+            ..w
         };
     }
-    Running {
-        element: residue::plus(e, x),
-        additions: n,
+    Walk {
+        element: residue::plus(w.element, x),
+        additions,
+        ..w
     }
 }
 
-// How many rows have a window of so many limbs beside them.
-pub(crate) fn windowed(digits: usize, limbs: usize, unit: usize) -> usize
-    requires { 0 < unit }
-    ensures { result ≡ min (digits / 256) (limbs / unit) }
-{
-    lent::smaller(digits / 256, limbs / unit)
+// NAF rows, and beside them their windows of so many limbs; a row without a window is left out.
+#[derive(Clone, Copy)]
+pub(crate) struct Rows<'a, const LIMBS: usize> {
+    digits: &'a [i8],
+    windows: &'a [u64],
 }
 
-// Place j of the first m rows, each handed on as a part with its window's part.
-pub(crate) fn column(
-    q: Running,
-    digits: &[i8],
-    windows: &[u64],
-    unit: usize,
-    m: usize,
-    j: usize,
-) -> Running
-    requires { Passable digits.now windows.now unit m j q.additions }
-    ensures { run result ≡ passed elements digits.now (window_entry unit windows.now) m j (run q) }
-{
-    let mut r = q;
-    let mut i: usize = 0;
-    while i < m {
-        let a = 256 * i;
-        let e = a + 256;
-        let b = unit * i;
-        let f = b + unit;
-        r = moved(r, &digits[a..e], &windows[b..f], j);
-        i += 1;
+impl<'a, const LIMBS: usize> Rows<'a, LIMBS> {
+    // w with place j of every row, each handed on as a part with its window's part.
+    pub(crate) fn column(&self, w: Walk, j: usize) -> Walk
+        requires limbs { 0 < LIMBS }
+        requires place { j < 256 }
+        requires count { w.additions + column_weight (slot_digit self.now.digits.now) (windowed_rows LIMBS self.now.digits.now self.now.windows.now) j < 2 ^ 64 }
+        ensures sum { run result ≡ passed elements self.now.digits.now (window_entry LIMBS self.now.windows.now) (windowed_rows LIMBS self.now.digits.now self.now.windows.now) j (run w) }
+        ensures doublings { result.doublings ≡ w.doublings }
+    {
+        let mut r = w;
+        let windows = self.windows.chunks_exact(LIMBS);
+        for (row, window) in self.digits.chunks_exact(256).zip(windows) {
+            r = moved(r, row, window, j);
+        }
+        r
     }
-    r
 }
 
 // From the highest of so many places down: one doubling, the dynamic rows, then the static ones.
@@ -86,30 +76,24 @@ pub fn walk(
 ) -> Walk
     ensures { result ≡ walked digits.now windows.now static_digits.now tables.now places }
 {
-    let m = windowed(digits.len(), windows.len(), 32);
-    let s = windowed(static_digits.len(), tables.len(), 256);
-    let n = lent::smaller(places, 256);
-    let mut r = Running {
+    let dynamic_rows: Rows<'_, 32> = Rows { digits, windows };
+    let static_rows: Rows<'_, 256> = Rows {
+        digits: static_digits,
+        windows: tables,
+    };
+    let mut w = Walk {
         element: residue::identity(),
         additions: 0,
+        doublings: 0,
     };
-    let mut doublings: u64 = 0;
-    let mut j = n;
-    while 0 < j {
-        j -= 1;
-        let e = r.element;
-        let t = Running {
-            element: residue::twice(e),
-            additions: r.additions,
+    for j in (0..places.min(256)).rev() {
+        let doubled = Walk {
+            element: residue::twice(w.element),
+            doublings: w.doublings + 1,
+            ..w
         };
-        doublings += 1;
-        let u = column(t, digits, windows, 32, m, j);
-        r = column(u, static_digits, tables, 256, s, j);
+        let u = dynamic_rows.column(doubled, j);
+        w = static_rows.column(u, j);
     }
-    let element = r.element;
-    Walk {
-        element,
-        additions: r.additions,
-        doublings,
-    }
+    w
 }

@@ -4,6 +4,7 @@ use Rattle.std.proofs.Math.Path.{sym, ap, ap₂}
 use Rattle.std.proofs.Common.{◌∙◌, inl, inr, add-zero, add_assoc, mul-suc, mul-le-mul_left, le_trans, eq-or-lt_of_le, le_of_suc-le-suc, arith}
 use mathlib.Core.List.{List}
 use Rattle.rules.specs.Group.{Ops, total}
+use Rattle.rules.specs.Values.{part}
 use Rattle.rules.specs.Rows.{digit}
 use Rattle.rules.specs.Loops.{down, nonzero, odd_entry, moved, weight, column, walk}
 use Rattle.rules.specs.Batch.{slot_digit}
@@ -11,7 +12,6 @@ use Rattle.rules.specs.Helpers.{entry_in}
 use Rattle.laws.specs.Loops.{down-none, down_turn}
 use Rattle.laws.specs.Weight.{column_weight, column-empty, column-row, weight-empty, weight-off, weight-le}
 use Rattle.laws.specs.Columns.{column-none, column-more, turn, walk_is}
-use Rattle.laws.specs.Parts.{part-is, part_length}
 
 -- a sum and its count
 pub record Run (A : Type 0) : Type 0 where
@@ -28,13 +28,6 @@ onward o d x q = running (moved o d q.sum x) (q.additions + nonzero d)
 -- with place j of m rows, whose entries are x
 unfoldable pub passed : {A : Type 0} → Ops A → List ℤ → (ℕ → ℕ → A) → ℕ → ℕ → Run A → Run A
 passed o ds x m j q = running (column o (slot_digit ds) x m j q.sum) (q.additions + column_weight (slot_digit ds) m j)
-
--- there are m rows with their windows of n limbs, place j is one of theirs, and the additions can be counted
-pub record Passable (ds : List ℤ) (ws : List ℕ) (n m j a : ℕ) : Type 0 where
-  pub rows : 256 * m ≤ length ds
-  pub windows : n * m ≤ length ws
-  pub place : j < 256
-  pub count : a + column_weight (slot_digit ds) m j < 2 ^ 64
 
 -- n places more below n m
 pub room : (n i m k : ℕ) → i < m → n * m ≤ k → n * i + n ≤ k
@@ -57,44 +50,30 @@ passed_none o ds x j q =
     sym (ap₂ running (column-none o (slot_digit ds) x j q.sum)
     (ap (λ (k : ℕ). q.additions + k) (column-empty (slot_digit ds) j) ∙ add-zero q.additions))
 
--- the loop over the rows of one column
-module _ {A : Type 0} (o : Ops A) (read : List ℕ → ℕ → A) (ds : List ℤ) (ws : List ℕ) (n j : ℕ) (q : Run A) where
-  -- row i's part and its window's part, as they are handed on
-  abbrev row_part : ℕ → List ℤ
-  row_part i = take (256 * i + 256 - 256 * i) (drop (256 * i) ds)
-
-  abbrev window_part : ℕ → List ℕ
-  window_part i = take (n * i + n - n * i) (drop (n * i) ws)
-
-  row_is : (i : ℕ) → digit (row_part i) j ≡ slot_digit ds i j
+-- the loop over the rows of one column: row i's part and its window's part, as they are handed on
+module _ {A : Type 0} (o : Ops A) (read : List ℕ → ℕ → A) (ds : List ℤ) (ws : List ℕ) (n j : ℕ) (q : Run A) (i : ℕ) (row : List ℤ) (row_is : row ≡ part 256 i ds)
+    (r : Run A) (so_far : r ≡ passed o ds (entry_in read n ws) i j q) where
+  digit_is : digit row j ≡ slot_digit ds i j
   unfolding slot_digit
-  row_is i = ap (λ (r : List ℤ). digit r j) (part-is 256 i ds)
+  digit_is = ap (λ (t : List ℤ). digit t j) row_is
 
-  window-is : (i k : ℕ) → read (window_part i) k ≡ entry_in read n ws i k
-  unfolding entry_in
-  window-is i k = ap (λ (w : List ℕ). read w k) (part-is n i ws)
-
-  pub passed-more : (i : ℕ) (r r' : Run A) → r ≡ passed o ds (entry_in read n ws) i j q
-      → r' ≡ onward o (digit (row_part i) j) (read (window_part i) (odd_entry (digit (row_part i) j))) r → r' ≡ passed o ds (entry_in read n ws) (i + 1) j q
-  unfolding passed onward
-  passed-more i r r' e h =
+  pub passed-more : (window : List ℕ) → window ≡ part n i ws → (r' : Run A) → r' ≡ onward o (digit row j) (read window (odd_entry (digit row j))) r
+      → r' ≡ passed o ds (entry_in read n ws) (i + 1) j q
+  unfolding passed onward entry_in
+  passed-more window window-is r' h =
       h
-      ∙ ap (λ (z : ℤ). onward o z (read (window_part i) (odd_entry z)) r) (row_is i)
-      ∙ ap₂ (onward o (slot_digit ds i j)) (window-is i (odd_entry (slot_digit ds i j))) e
+      ∙ ap₂ (λ (z : ℤ) (w : List ℕ). onward o z (read w (odd_entry z)) r) digit_is window-is
+      ∙ ap (onward o (slot_digit ds i j) (read (part n i ws) (odd_entry (slot_digit ds i j)))) so_far
       ∙ sym (ap₂ running (column-more o (slot_digit ds) (entry_in read n ws) i j q.sum)
       (ap (λ (k : ℕ). q.additions + k) (column-row (slot_digit ds) i j)
       ∙ sym (add_assoc q.additions (column_weight (slot_digit ds) i j) (nonzero (slot_digit ds i j)))))
 
-  pub passed-fits : (i m : ℕ) (r : Run A) → i < m → Passable ds ws n m j q.additions → r ≡ passed o ds (entry_in read n ws) i j q
-      → r.additions + nonzero (digit (row_part i) j) < 2 ^ 64
+  pub passed-fits : (m : ℕ) → i < m → q.additions + column_weight (slot_digit ds) m j < 2 ^ 64 → r.additions + nonzero (digit row j) < 2 ^ 64
   unfolding passed column_weight
-  passed-fits i m r p h e =
-      let a : r.additions ≡ q.additions + total (λ i. nonzero (slot_digit ds i j)) i = ap (λ (x : Run A). x.additions) e in
+  passed-fits m p count =
+      let a : r.additions ≡ q.additions + total (λ i. nonzero (slot_digit ds i j)) i = ap (λ (x : Run A). x.additions) so_far in
       let g = total-grows (λ i. nonzero (slot_digit ds i j)) i m p in
-      rw (row_is i) (omega (arith, h.count))
-
-  pub row-long : (i m : ℕ) → i < m → Passable ds ws n m j q.additions → j < length (row_part i)
-  row-long i m p h = rw (part-is 256 i ds, part_length 256 i ds (room 256 i m (length ds) p h.rows)) h.place
+      rw digit_is (omega (arith, count))
 
 -- the loop down n places: m rows with entries x, then m' rows with entries x'
 module _ {A : Type 0} (o : Ops A) (ds : List ℤ) (x : ℕ → ℕ → A) (m : ℕ) (ds' : List ℤ) (x' : ℕ → ℕ → A) (m' n : ℕ) where
@@ -137,23 +116,23 @@ module _ {A : Type 0} (o : Ops A) (ds : List ℤ) (x : ℕ → ℕ → A) (m : �
           count = omega (arith, w.count, weight-off (slot_digit ds) m j more, weight-off (slot_digit ds') m' j more);
         }
 
-    -- both columns of the next place, where the rows are there
+    -- both columns of the next place can be counted, where the rows are there
     module _ (more : 0 < j) (places : n ≤ 256) (rows : 256 * m ≤ length ds) (rows' : 256 * m' ≤ length ds') (small : length ds * 1 < 2 ^ 63)
-        (small' : length ds' * 1 < 2 ^ 63) (ws : List ℕ) (k : ℕ) where
+        (small' : length ds' * 1 < 2 ^ 63) where
       fits : r.additions + column_weight (slot_digit ds) m (j - 1) + column_weight (slot_digit ds') m' (j - 1) < 2 ^ 64
       fits =
           let a : weight (slot_digit ds) m n ≤ m * 256 = le_trans (weight-le (slot_digit ds) m n) (mul-le-mul_left m places) in
           let b : weight (slot_digit ds') m' n ≤ m' * 256 = le_trans (weight-le (slot_digit ds') m' n) (mul-le-mul_left m' places) in
           omega (arith, w.count, weight-off (slot_digit ds) m j more, weight-off (slot_digit ds') m' j more)
 
-      pub walking-passes : k * m ≤ length ws → Passable ds ws k m (j - 1) r.additions
-      walking-passes windows = record { rows = rows; windows = windows; place = omega (arith, w.place); count = omega (arith, fits) }
+      pub walking-passes : r.additions + column_weight (slot_digit ds) m (j - 1) < 2 ^ 64
+      walking-passes = omega (arith, fits)
 
-      pub walking-passes' : k * m' ≤ length ws → (e : A) (u : Run A) → u ≡ passed o ds x m (j - 1) (running e r.additions) → Passable ds' ws k m' (j - 1) u.additions
+      pub walking-passes' : (e : A) (u : Run A) → u ≡ passed o ds x m (j - 1) (running e r.additions) → u.additions + column_weight (slot_digit ds') m' (j - 1) < 2 ^ 64
       unfolding passed
-      walking-passes' windows e u h =
+      walking-passes' e u h =
           let a : u.additions ≡ r.additions + column_weight (slot_digit ds) m (j - 1) = ap (λ (q : Run A). q.additions) h in
-          record { rows = rows'; windows = windows; place = omega (arith, w.place); count = omega (arith, fits) }
+          omega (arith, fits)
 
     pub walking-end : j ≡ 0 → (r.sum ≡ whole) × (r.additions ≡ heavy n)
     walking-end e =

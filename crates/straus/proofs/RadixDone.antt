@@ -1,17 +1,18 @@
 -- Radix-16 Straus where all has passed: what it asks of the walk, what it took, and what it leaves.
-use mathlib.Core.Path.{◌≡◌, sym, ap, ap₂, ◌∙◌}
+use mathlib.Core.Path.{◌≡◌, refl, sym, ap, ap₂, ◌∙◌}
 use mathlib.Core.List.{List}
-use Prim.Native.Nat.{ℕ, ◌+◌, ◌*◌, ◌%◌, ◌<◌}
+use Prim.Native.Nat.{ℕ, ◌+◌, ◌*◌, ◌/◌, ◌%◌, ◌<◌, min}
+use native.Mathlib.Nat.{mul-div_cancel_left, min-eq_left, le_refl}
 use native.Mathlib.Omega.{arith}
-use lib.ListN.{length}
-use lib.Dec.{lit≤}
+use lib.ListN.{length, take}
+use lib.Dec.{lit<, lit≤}
 use lib.IntN.{ℤ, pos}
 use Rattle.std.specs.Prelude.{Ok}
 use Rattle.rules.specs.declared.Counts.{Counts}
 use Rattle.rules.specs.declared.Row.TheVariants.{Radix}
 use Rattle.rules.specs.declared.Window.TheVariants.{Successive8}
 use Rattle.rules.specs.declared.Walk.{Walk}
-use Rattle.rules.specs.Values.{element_of, part, element_at, point_at, scalar_at}
+use Rattle.rules.specs.Values.{element_of, flat, element_at, point_at, scalar_at}
 use Rattle.rules.specs.Group.{L, elements}
 use Rattle.rules.specs.Numbers.{cleared}
 use Rattle.rules.specs.Rows.{digit, radix_row}
@@ -21,14 +22,15 @@ use Rattle.rules.specs.Engines.{products, radix_straus_refusal, radix_straus}
 use Rattle.rules.specs.Helpers.{elements_flat, looked_up, Made, laid, laid_rows, laid_windows}
 use Rattle.rules.specs.Results.{as_sum}
 use Rattle.laws.proofs.Room.{room-done}
-use Rattle.laws.proofs.Laid.{laid-part, laid-cleared}
+use Rattle.laws.proofs.Laid.{laid-front, laid-cleared}
+use Rattle.laws.specs.Parts.{flat-length, flat-part}
 use Rattle.laws.specs.RadixRows.{radix-length}
 use Rattle.lent.proofs.Passed.{pairs-points}
 use Rattle.limbs.proofs.Done.{done-sum}
 use Rattle.window.proofs.Flat.{elements-length}
 use Rattle.lookup.proofs.RadixSums.{radix16-walked}
 use Rattle.laying.proofs.Built.{radix-laid, successive-laid}
-use Rattle.straus.specs.Radix.{row_entry, radix_walked}
+use Rattle.straus.specs.Radix.{radix_rows, row_entry, radix_walked}
 use Rattle.straus.proofs.Refusing.{Ready, radix-ready}
 use Rattle.straus.proofs.Answering.{after}
 
@@ -59,17 +61,35 @@ module _ (ss ps : List ℕ) (ds : List ℤ) (ls : List ℕ) {m : ℕ} (em : m �
     windows : l ≡ laid 32 window_of m ls
     windows = ap (λ (t : Made). t.limbs) all
 
-    looks : (i j : ℕ) → i < m → j < 64 → row_entry d l i j ≡ looked_up 8 (window_of i) (digit (row_of i) j)
-    unfolding row_entry
-    looks i j p _ =
-        let w : part 32 i l ≡ window_of i = ap (part 32 i) windows ∙ laid-part 32 window_of m ls window-long i p in
-        let r : part 64 i d ≡ row_of i = ap (part 64 i) rows ∙ laid-part 64 row_of m ds row-long i p in
-        rw (w, r)
+    abbrev fronts : List ℤ
+    fronts = flat row_of m
 
-    module _ {k : Walk} (walked : k ≡ radix_walked d l m) where
+    abbrev tables : List ℕ
+    tables = flat window_of m
+
+    rows_are : radix_rows fronts tables ≡ m
+    unfolding radix_rows
+    rows_are =
+        ap₂ min (ap (λ (k : ℕ). k / 64) (flat-length 64 row_of m row-long) ∙ mul-div_cancel_left m (lit< tt))
+        (ap (λ (k : ℕ). k / 32) (flat-length 32 window_of m window-long) ∙ mul-div_cancel_left m (lit< tt))
+        ∙ min-eq_left (le_refl m)
+
+    looks : (i j : ℕ) → i < m → j < 64 → row_entry fronts tables i j ≡ looked_up 8 (window_of i) (digit (row_of i) j)
+    unfolding row_entry
+    looks i j p _ = rw (flat-part 32 window_of m i window-long p, flat-part 64 row_of m i row-long p) refl
+
+    module _ {k : Walk} (went : k ≡ radix_walked (take (64 * m) d) (take (32 * m) l) (radix_rows (take (64 * m) d) (take (32 * m) l))) where
+      walked : k ≡ radix_walked fronts tables m
+      walked =
+          went
+          ∙ ap₂ (λ (x : List ℤ) (y : List ℕ). radix_walked x y (radix_rows x y))
+          (ap (take (64 * m)) rows ∙ laid-front 64 row_of m ds row-long)
+          (ap (take (32 * m)) windows ∙ laid-front 32 window_of m ls window-long)
+          ∙ ap (radix_walked fronts tables) rows_are
+
       element-is : k.element ≡ element_of (products ss ps m % L)
       unfolding radix_walked products point_at
-      element-is = ap (λ (t : Walk). t.element) walked ∙ radix16-walked (row_entry d l) (element_at ps) (scalar_at ss) m radix-ok.members radix-ok.small-ones looks
+      element-is = ap (λ (t : Walk). t.element) walked ∙ radix16-walked (row_entry fronts tables) (element_at ps) (scalar_at ss) m radix-ok.members radix-ok.small-ones looks
 
       pub radix-counts : (c.additions + k.additions ≡ 71 * m) × (c.doublings + k.doublings ≡ 256)
       unfolding radix_walked

@@ -23,7 +23,7 @@ pub fn multiscalar_mul(
     let m = lent::pairs(scalars, points);
     laying::rows(scalars, m, Row::Radix(4), &mut *digits);
     let made = laying::windows(points, m, Window::Successive8, &mut *limbs);
-    let w = crate::radix_16::walk(digits, limbs, m);
+    let w = crate::radix_16::walk(&digits[..64 * m], &limbs[..32 * m]);
     room::clear_digits(&mut *digits, 64 * m);
     room::clear_limbs(&mut *limbs, 32 * m);
     Ok(Walk {

@@ -13,24 +13,21 @@ use rules::{Refusal, Walk};
 fn walk(row: [i8; 64], window: &[u64]) -> Walk
     ensures { result ≡ walked_down row window.now }
 {
-    let mut q = residue::plus(residue::identity(), lookup::looked_up(window, row[63]));
-    let mut additions: u64 = 1;
-    let mut doublings: u64 = 0;
-    let mut j: usize = 63;
-    while 0 < j {
-        j -= 1;
-        q = residue::plus(
-            residue::mul_by_pow_2(q, 4),
-            lookup::looked_up(window, row[j]),
-        );
-        additions += 1;
-        doublings += 4;
+    let first = residue::plus(residue::identity(), lookup::looked_up(window, row[63]));
+    let mut w = Walk {
+        element: first,
+        additions: 1,
+        doublings: 0,
+    };
+    for j in (0..63).rev() {
+        let doubled = residue::mul_by_pow_2(w.element, 4);
+        w = Walk {
+            element: residue::plus(doubled, lookup::looked_up(window, row[j])),
+            additions: w.additions + 1,
+            doublings: w.doublings + 4,
+        };
     }
-    Walk {
-        element: q,
-        additions,
-        doublings,
-    }
+    w
 }
 
 // The number that the call answers.

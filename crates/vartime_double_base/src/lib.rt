@@ -11,12 +11,13 @@ use rules::{Refusal, Walk};
 pub(crate) mod basepoint;
 
 // The start place: from place 255 down the first where either row is not 0, or 0.
+// It stays a loop that yields its place by break, since document 01 names that form.
 fn start(a: &[i8], b: &[i8]) -> usize
     requires { (length a.now ≡ 256) × (length b.now ≡ 256) }
     ensures { result ≡ start_place a.now b.now }
 {
     let mut i: usize = 255;
-    let at = loop {
+    loop {
         if a[i] != 0 {
             break i;
         }
@@ -27,8 +28,7 @@ fn start(a: &[i8], b: &[i8]) -> usize
             break 0;
         }
         i -= 1;
-    };
-    at
+    }
 }
 
 // The number that the call answers.

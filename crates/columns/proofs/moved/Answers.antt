@@ -8,22 +8,22 @@ use Rattle.digit.proofs.Machine.{not-zero}
 use Rattle.laws.proofs.Steps.{onward-zero, onward-below, onward-above}
 use Rattle.columns.proofs.moved.Goals as goal
 
-pub returns-then-d-eq0 : goal.returns-then-d-eq0
-returns-then-d-eq0 c = onward-zero elements element_at _ (record { sfits = c.d-1.given }) _ _ c.if-d-eq0.true
+pub returns-then-d-eq0-clause-sum : goal.returns-then-d-eq0-clause-sum
+returns-then-d-eq0-clause-sum c = onward-zero elements element_at _ (record { sfits = c.d-1.given }) _ _ c.if-d-eq0.true
 
-pub overflow_add-n : goal.overflow_add-n
-overflow_add-n c =
+pub overflow_add-additions : goal.overflow_add-additions
+overflow_add-additions c =
     let a = c.args in
     omega (arith, nonzero-not (digit a.row.now a.j) (not-zero _ c.if-d-eq0.false))
 
-pub returns-then-d-lt0 : goal.returns-then-d-lt0
-returns-then-d-lt0 c =
+pub returns-then-d-lt0-clause-sum : goal.returns-then-d-lt0-clause-sum
+returns-then-d-lt0-clause-sum c =
     onward-below elements element_at _ (record { sfits = c.d-1.given }) _ _ _ _ _ c.odd_entry.ensures c.element_at-x.ensures
     c.if-d-lt0.true
     c.minus.ensures
 
-pub returns : goal.returns
-returns c =
+pub returns-clause-sum : goal.returns-clause-sum
+returns-clause-sum c =
     onward-above elements element_at _ (record { sfits = c.d-1.given }) _ _ _ _ _ c.odd_entry.ensures c.element_at-x.ensures
     c.if-d-eq0.false
     c.if-d-lt0.false

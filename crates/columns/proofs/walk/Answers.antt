@@ -1,24 +1,33 @@
+use mathlib.Core.Path.{◌≡◌}
+use Prim.Native.Nat.{min}
 use native.Mathlib.Omega.{arith}
+use Rattle.rules.specs.Helpers.{windowed_rows}
 use Rattle.laws.specs.Running.{walking-none, walking-more, walking-passes, walking-passes'}
 use Rattle.columns.proofs.Walking.{walking-end}
 use Rattle.columns.proofs.walk.Goals as goal
 
 pub loop-j-init : goal.loop-j-init
-loop-j-init c = (walking-none _ _ _ _ _ _ _ _ _ c.identity.ensures, omega arith)
+loop-j-init c =
+    let e : c.min-j.result ≡ min c.args.places 256 = omega arith in
+    record { rest = rw e (walking-none _ _ _ _ _ _ _ _ _ c.identity.ensures); doublings = omega arith }
 
 pub column-u-requires : goal.column-u-requires
+unfolding windowed_rows
 column-u-requires c =
-    walking-passes _ _ _ _ _ _ _ _ _ _ c.loop-j.invariant.0 (omega arith) (omega arith) (omega arith) (omega arith) (omega arith) (omega arith) _ _ (omega arith)
+    let count = walking-passes _ _ _ _ _ _ _ _ _ _ c.loop-j.invariant.rest (omega arith) (omega arith) (omega arith) (omega arith) (omega arith) (omega arith) in
+    (omega arith, (omega arith, (omega (arith, c.loop-j.invariant.rest.place), count)))
 
-pub column-r-requires : goal.column-r-requires
-column-r-requires c =
-    walking-passes' _ _ _ _ _ _ _ _ _ _ c.loop-j.invariant.0 (omega arith) (omega arith) (omega arith) (omega arith) (omega arith) (omega arith) _ _ (omega arith) _ _
-    c.column-u.ensures
+pub column-w-requires : goal.column-w-requires
+unfolding windowed_rows
+column-w-requires c =
+    let count = walking-passes' _ _ _ _ _ _ _ _ _ _ c.loop-j.invariant.rest (omega arith) (omega arith) (omega arith) (omega arith) (omega arith) (omega arith) _ _ c.column-u.ensures.sum in
+    (omega arith, (omega arith, (omega (arith, c.loop-j.invariant.rest.place), count)))
 
 pub loop-j-preserved : goal.loop-j-preserved
-loop-j-preserved c =
-    (walking-more _ _ _ _ _ _ _ _ _ _ c.loop-j.invariant.0 (omega arith) _ _ _ c.twice.ensures c.column-u.ensures c.column-r.ensures, omega (arith, c.loop-j.invariant.1))
+loop-j-preserved c = record {
+  rest = walking-more _ _ _ _ _ _ _ _ _ _ c.loop-j.invariant.rest (omega arith) _ _ _ c.twice.ensures c.column-u.ensures.sum c.column-w.ensures.sum;
+  doublings = omega (arith, c.loop-j.invariant.doublings, c.column-u.ensures.doublings, c.column-w.ensures.doublings);
+}
 
 pub returns : goal.returns
-returns c =
-    walking-end _ _ _ _ _ _ _ _ c.windowed-m.ensures c.windowed-s.ensures c.smaller-n.ensures _ _ c.loop-j.invariant.0 (omega arith) _ c.loop-j.invariant.1
+returns c = walking-end _ _ _ _ _ _ _ c.loop-j.invariant (omega arith)

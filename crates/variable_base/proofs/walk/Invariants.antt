@@ -3,7 +3,4 @@ use Rattle.variable_base.proofs.Walking.{Walking}
 use Rattle.variable_base.proofs.walk.Given as goal
 
 abbrev pub invariant-loop-j : goal.invariant-loop-j
-invariant-loop-j l = Walking l.row l.window l.q l.additions l.doublings l.j
-
-abbrev pub decreases-loop-j : goal.decreases-loop-j
-decreases-loop-j l = l.j
+invariant-loop-j l = Walking l.row l.window l.w l.j

@@ -1,11 +1,12 @@
--- After i turns the first i rows have been passed.
+-- After so many turns as many rows have been passed.
 use mathlib.Core.Path.{◌≡◌}
-use Prim.Native.Nat.{◌≤◌, ◌+◌, ◌-◌}
-use Rattle.straus.proofs.Walking.{passed}
+use lib.ListN.{length}
+use Rattle.columns.proofs.Chunks.{Beside}
+use Rattle.straus.specs.Radix.{with_column}
 use Rattle.straus.proofs.radix_16.column.Given as goal
 
-abbrev pub invariant-loop-i : goal.invariant-loop-i
-invariant-loop-i l = (l.i ≤ l.m) × (l.r ≡ passed l.digits l.limbs l.j l.initial.r l.i) × (l.additions ≡ l.initial.additions + l.i)
-
-abbrev pub decreases-loop-i : goal.decreases-loop-i
-decreases-loop-i l = l.m - l.i
+abbrev pub invariant-loop-row : goal.invariant-loop-row
+invariant-loop-row l = record {
+  beside : Beside 64 l.digits 32 l.limbs l.row-iterator (length l.yielded);
+  sum : l.r ≡ with_column l.digits l.limbs (length l.yielded) l.j l.initial.r;
+}
