@@ -96,7 +96,7 @@ pub(crate) fn column(
     requires { Placed 4 digits.now m j (4 * n) × ((1 < n) × (4 * n ≤ length buckets.old)) }
     ensures { ColumnMade elements 4 digits.now (element_at points.now) m j n buckets.old buckets.new result.element result.additions }
 {
-    room::clear_limbs(&mut *buckets, 4 * n);
+    room::clear(&mut *buckets, 0, 4 * n);
     let put = put_all(digits, points, m, j, &mut *buckets);
     let s = sum_buckets(buckets, n);
     let element = s.element;

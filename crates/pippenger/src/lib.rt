@@ -58,8 +58,8 @@ pub fn optional_multiscalar_mul(
     let w = width(scalars.len() / 32);
     laying::rows(scalars, m, Row::Radix(w), &mut *digits);
     let q = walk(digits, points, m, w, &mut *buckets);
-    room::clear_digits(&mut *digits, 64 * m);
-    room::clear_limbs(&mut *buckets, 4 * buckets_count(w));
+    room::clear(&mut *digits, 0, 64 * m);
+    room::clear(&mut *buckets, 0, 4 * buckets_count(w));
     let e = q.element;
     answer::sum(e, q.additions, q.doublings)
 }

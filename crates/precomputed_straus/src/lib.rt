@@ -88,7 +88,7 @@ pub fn optional_mixed_multiscalar_mul(
         &mut digits[..e],
         &mut limbs[..f],
     );
-    room::clear_digits(&mut *digits, e);
-    room::clear_limbs(&mut *limbs, f);
+    room::clear(&mut *digits, 0, e);
+    room::clear(&mut *limbs, 0, f);
     answer::sum(w.element, w.additions, w.doublings)
 }

@@ -21,8 +21,8 @@ pub fn multiscalar_mul(scalars: &[u8], points: &[u64], digits: &mut [i8], limbs:
     laying::rows(scalars, m, Row::Radix(4), &mut *digits);
     let made = laying::windows(points, m, Window::Successive8, &mut *limbs);
     let w = crate::radix_16::walk(digits, limbs, m);
-    room::clear_digits(&mut *digits, 64 * m);
-    room::clear_limbs(&mut *limbs, 32 * m);
+    room::clear(&mut *digits, 0, 64 * m);
+    room::clear(&mut *limbs, 0, 32 * m);
     answer::sum(
         w.element,
         made.additions + w.additions,
@@ -52,8 +52,8 @@ pub fn optional_multiscalar_mul(
     let rows = &digits[..e];
     let windows = &limbs[..f];
     let w = columns::walk(rows, windows, &rows[..0], &windows[..0], 256);
-    room::clear_digits(&mut *digits, e);
-    room::clear_limbs(&mut *limbs, f);
+    room::clear(&mut *digits, 0, e);
+    room::clear(&mut *limbs, 0, f);
     answer::sum(
         w.element,
         made.additions + w.additions,

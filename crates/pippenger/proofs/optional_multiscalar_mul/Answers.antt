@@ -40,4 +40,4 @@ pub returns : goal.returns
 unfolding picked_by
 returns c =
     done-after _ _ _ _ _ c.refusal-n.ensures c.if-n-ne0.false c.pairs-m.ensures c.width-w.ensures (passed _ c.pairs-m.ensures c.width-w.ensures c.refusal-n.ensures c.if-n-ne0.false)
-    c.rows.ensures c.walk-q.ensures c.clear_digits.ensures c.buckets_count.ensures c.clear_limbs.ensures c.sum.ensures
+    c.rows.ensures c.walk-q.ensures c.clear.ensures c.buckets_count.ensures c.clear-2.ensures c.sum.ensures

@@ -25,4 +25,4 @@ pub walk-w-requires : goal.walk-w-requires
 walk-w-requires c = ready _ _ _ _ _ c.args.digits.now c.args.limbs.now (sym c.mixed_refusal-number.ensures ∙ c.if-number-ne0.false)
 
 pub returns : goal.returns
-returns c = done-mixed _ _ _ _ _ c.args.digits.now c.args.limbs.now (sym c.mixed_refusal-number.ensures ∙ c.if-number-ne0.false) c.walk-w.new.digits c.walk-w.new.limbs c.walk-w.ensures c.sum.ensures c.walk-w.auto.digits c.walk-w.auto.limbs c.clear_digits.ensures c.clear_limbs.ensures
+returns c = done-mixed _ _ _ _ _ c.args.digits.now c.args.limbs.now (sym c.mixed_refusal-number.ensures ∙ c.if-number-ne0.false) c.walk-w.new.digits c.walk-w.new.limbs c.walk-w.ensures c.sum.ensures c.walk-w.auto.digits c.walk-w.auto.limbs c.clear.ensures c.clear-2.ensures

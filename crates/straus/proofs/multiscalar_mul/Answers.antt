@@ -31,4 +31,4 @@ pub overflow_add-made-2 : goal.overflow_add-made-2
 overflow_add-made-2 c = omega (arith, radix-counts _ _ _ _ c.pairs-m.ensures (sym c.refusal-number.ensures ∙ c.if-number-ne0.false) c.rows.ensures c.windows-made.ensures c.walk-w.ensures)
 
 pub returns : goal.returns
-returns c = radix-done _ _ _ _ c.pairs-m.ensures (sym c.refusal-number.ensures ∙ c.if-number-ne0.false) c.rows.ensures c.windows-made.ensures c.walk-w.ensures c.sum.ensures c.clear_digits.ensures c.clear_limbs.ensures
+returns c = radix-done _ _ _ _ c.pairs-m.ensures (sym c.refusal-number.ensures ∙ c.if-number-ne0.false) c.rows.ensures c.windows-made.ensures c.walk-w.ensures c.sum.ensures c.clear.ensures c.clear-2.ensures

@@ -49,4 +49,4 @@ overflow_add-made-2 c =
 pub returns : goal.returns
 returns c =
     naf-done _ _ _ _ _ c.pairs-m.ensures (sym c.refusal-n.ensures ∙ c.if-n-ne0.false) (λ i. (c.type_inv.points i).fits)
-    c.rows.ensures c.windows-made.ensures c.walk-w.ensures c.sum.ensures c.clear_digits.ensures c.clear_limbs.ensures
+    c.rows.ensures c.windows-made.ensures c.walk-w.ensures c.sum.ensures c.clear.ensures c.clear-2.ensures
