@@ -7,7 +7,7 @@ use native.Mathlib.Decide.{dec_lt}
 use lib.ListN.{length, set, take, drop, drop_of_length-le}
 use lib.Seq.{length-take-le, take_all}
 use Rattle.rules.specs.Numbers.{cleared}
-use Rattle.laws.proofs.Room.{cleared-length, cleared_more, cleared-past}
+use Rattle.laws.proofs.Room.{cleared_more, cleared-past}
 
 module _ {A : Type 0} (z : A) where
   -- the part that is cleared, then the rest

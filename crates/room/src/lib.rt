@@ -1,7 +1,8 @@
-// Lent room: its first units, and clearing.
+// Lent room: its first units, clearing it, and putting a list into its part.
 #![tactic(auto)]
 
 ghost use Rattle.std.specs.Prelude.{◌≡◌};
+ghost use Rattle.rules.specs.Lists.{put};
 ghost use Rattle.rules.specs.Numbers.{cleared};
 
 use lent::smaller;
@@ -16,4 +17,14 @@ pub fn clear<T: Copy>(list: &mut [T], zero: T, n: usize)
     for place in &mut list[..end] {
         *place = zero;
     }
+}
+
+// A row or a window into its part, which is untouched where it has another length.
+pub fn put<T: Copy>(part: &mut [T], list: &[T])
+    ensures { part.new ≡ put list.now part.old }
+{
+    if part.len() != list.len() {
+        return;
+    }
+    part.copy_from_slice(list);
 }
