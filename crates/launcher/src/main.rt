@@ -143,13 +143,13 @@ fn waiting(flags: &[u8]) -> usize {
 // How many orders go is known at run time only: the first n of each list and of the memory are lent.
 fn launch(rt: &impl Print, scalars: &[u8], points: &[u64], flags: &[u8]) {
     let n = waiting(flags);
-    let s = parts::bytes(scalars, SCALAR_BYTES, n);
-    let p = parts::limbs(points, POINT_LIMBS, n);
-    let f = parts::bytes(flags, 1, n);
+    let s = parts::first_units(scalars, SCALAR_BYTES, n);
+    let p = parts::first_units(points, POINT_LIMBS, n);
+    let f = parts::first_units(flags, 1, n);
     let mut digits = [0i8; ROOM * SLOT_DIGITS];
     let mut windows = [0u64; ROOM * SLOT_LIMBS];
-    let d = parts::digit_room(&mut digits, SLOT_DIGITS, n);
-    let w = parts::limb_room(&mut windows, SLOT_LIMBS, n);
+    let d = parts::first_units_mut(&mut digits, SLOT_DIGITS, n);
+    let w = parts::first_units_mut(&mut windows, SLOT_LIMBS, n);
     let prepared = batch::prepare(s, p, f, &mut *d, &mut *w);
     let ready = done(rt, b"prepare the orders that have their points", prepared);
     total(rt, ready, d, w);

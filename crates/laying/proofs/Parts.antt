@@ -1,5 +1,5 @@
 -- The rows and windows of each kind, and the loops that lay them: before them, one more, after them.
-use mathlib.Core.Path.{◌≡◌, refl, sym, ap, ap₂, ◌∙◌}
+use mathlib.Core.Path.{◌≡◌, refl, sym, ap, ◌∙◌}
 use mathlib.Core.Bool.{Bool, true, false, cond}
 use mathlib.Core.List.{List, ◌++◌}
 use Prim.Native.Nat.{ℕ, ◌+◌, ◌-◌, ◌*◌, ◌/◌, ◌<◌, ◌≤◌, min}
@@ -20,11 +20,10 @@ use Rattle.rules.specs.Group.{elements}
 use Rattle.rules.specs.Rows.{width_off, naf_row_of, radix_row_of}
 use Rattle.rules.specs.Windows.{successive, odd}
 use Rattle.rules.specs.Lists.{put, scalar_count, point_count}
-use Rattle.rules.specs.Helpers.{Made, made_successive, made_odd_in, fitting, row_places, row_of, laid_rows, window_entries, window_of, made_window, window_doublings, laid_windows, made_odd, Filled, filled_slot}
+use Rattle.rules.specs.Helpers.{Made, made_successive, made_odd_in, fitting, row_places, row_of, laid_rows, window_entries, window_of, made_window, window_doublings, laid_windows}
 use Rattle.laws.specs.Conditions.{or_split}
 use Rattle.laws.specs.Parts.{part-is}
-use Rattle.laws.proofs.Laying.{counted-more, counted-fits, fitting-is, fitting-room, Laying, laying-none, laying-long, laying-room, laying-more, laying-end}
-use Rattle.laws.specs.Running.{room}
+use Rattle.laws.proofs.Laying.{counted-more, counted-fits, fitting-is, fitting-room, Laying, laying-none, laying-more, laying-end}
 use Rattle.laws.specs.NafRows.{naf-length}
 use Rattle.laws.specs.RadixRows.{radix-length}
 use Rattle.window.proofs.Flat.{elements-length}
@@ -39,13 +38,6 @@ unfolding row_of row_places naf_row_of radix_row_of width_off
 row-long (Naf w) s = either (width_off 2 w) _ (λ e. naf-length w _)
 row-long (Radix w) s =
     either (width_off 4 w) _ (λ e. let o = or_split (ltb w 4) (ltb 8 w) e in radix-length w (ltb-false w 4 o.0) (ltb-false 8 w o.1) _)
-
--- what is made by the kind that a match told
-pub row_put : {k k' : Row} (s : List ℕ) (part : List ℤ) {row y : List ℤ} → k ≡ k' → row ≡ row_of k' s → y ≡ put row part → y ≡ put (row_of k s) part
-row_put s part e f g = g ∙ rw (f, e)
-
-pub window-put : {k k' : Window} (p : Element) (l : List ℕ) {m : Made} → k ≡ k' → m ≡ made_window k' p l → m ≡ made_window k p l
-window-put p l e f = f ∙ rw e
 
 pub row-some : (k : Row) → (0 < row_places k) × (row_places k ≤ 256)
 unfolding row_places
@@ -98,15 +90,6 @@ module _ (k : Row) (ss : List ℕ) (n : ℕ) (ds : List ℤ) where
     fits : u * m ≤ length ds
     fits = rw h.count (fitting-room u _ ds)
 
-    pub rows_long : length d ≡ length ds
-    rows_long = laying-long u row_at m ds long fits h.laying
-
-    pub rows-room : i < m → u * i + u ≤ length d
-    rows-room = laying-room u row_at m ds long fits h.laying
-
-    pub rows_inside : i < m → u * i + u ≤ length ds
-    rows_inside p = room u i m (length ds) p fits
-
     pub rows_more : i < m → (ys : List ℤ) → ys ≡ put (row_of k (take (32 * i + 32 - 32 * i) (drop (32 * i) ss))) (take (u * i + u - u * i) (drop (u * i) d))
         → RowsLaying u m (take (u * i) d ++ (ys ++ drop (u * i + u - u * i) (drop (u * i) d))) (i + 1)
     rows_more p ys e = record { unit = h.unit; count = h.count; laying = laying-more u row_at m ds long fits h.laying p (ap (row_of k) (part-is 32 i ss)) e }
@@ -143,15 +126,6 @@ module _ (k : Window) (ps : List ℕ) (n : ℕ) (ls : List ℕ) where
     fits' : u * m ≤ length ls
     fits' = rw h.count (fitting-room u _ ls)
 
-    pub windows-long : length l ≡ length ls
-    windows-long = laying-long u window_at m ls long' fits' h.laying
-
-    pub windows-room : i < m → u * i + u ≤ length l
-    windows-room = laying-room u window_at m ls long' fits' h.laying
-
-    pub windows-inside : i < m → u * i + u ≤ length ls
-    windows-inside p = room u i m (length ls) p fits'
-
     -- one window more, made of the point x
     module _ (p : i < m) {x : Element} {c : Counts} {v : List ℕ} (ex : x ≡ element_at ps i)
         (made : ◌≡◌ {A = Made} (record { counts = c; limbs = v }) (made_window k x (take (u * i + u - u * i) (drop (u * i) l)))) where
@@ -184,10 +158,3 @@ module _ (k : Window) (ps : List ℕ) (n : ℕ) (ls : List ℕ) where
     windows-end g =
         let e : i ≡ m = omega (arith, h.laying.place) in
         rw (laying-end u window_at m ls h.laying g, h.additions, h.doublings, e, h.count, h.unit)
-
--- one slot: a row put into its part, and a window made in its own
-pub slot_is : (s : List ℕ) (p : Element) (row row' digits : List ℤ) (window window' : List ℕ) (c : Counts) → digits ≡ naf_row_of s 5 → row' ≡ put digits row
-    → ◌≡◌ {A = Made} (record { counts = c; limbs = window' }) (made_odd 8 p window) → ◌≡◌ {A = Filled} (record { counts = c; digits = row'; windows = window' }) (filled_slot s p row window)
-unfolding filled_slot
-slot_is s p row row' digits window window' c e f g =
-    ap₂ (λ (d : List ℤ) (m : Made). record { counts = m.counts; digits = d; windows = m.limbs }) (f ∙ ap (λ (r : List ℤ). put r row) e) g

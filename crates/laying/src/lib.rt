@@ -7,7 +7,8 @@ ghost use Rattle.rules.specs.Helpers.{row_places, row_of, laid_rows, window_entr
 
 use rules::{Counts, Element, Row, Window};
 
-// The places of a row.
+// The places of a row. The kinds are matched here: their enums are arguments of `laid_rows` and `laid_windows` in `rules`, which has no code that a method could stand in.
+#[tactic(auto, unfolding(rules::specs::Helpers::row_places))]
 fn places(kind: Row) -> usize
     ensures { result ≡ row_places kind }
 {
@@ -17,27 +18,14 @@ fn places(kind: Row) -> usize
     }
 }
 
-// A row into its part, which is untouched where it has another length.
-fn copy_digits(part: &mut [i8], row: &[i8])
-    ensures { part.new ≡ put row.now part.old }
-{
-    if part.len() != row.len() {
-        return;
-    }
-    let mut i: usize = 0;
-    while i < row.len() {
-        part[i] = row[i];
-        i += 1;
-    }
-}
-
 // The row of a scalar, into its part.
+#[tactic(auto, unfolding(rules::specs::Helpers::row_of))]
 fn row(scalar: &[u8], kind: Row, part: &mut [i8])
     ensures { part.new ≡ put (row_of kind scalar.now) part.old }
 {
     match kind {
-        Row::Naf(w) => copy_digits(&mut *part, &scalar::naf_row(scalar, w)),
-        Row::Radix(w) => copy_digits(&mut *part, &radix::radix_row(scalar, w)),
+        Row::Naf(w) => room::put(part, &scalar::naf_row(scalar, w)),
+        Row::Radix(w) => room::put(part, &radix::radix_row(scalar, w)),
     }
 }
 
@@ -47,36 +35,33 @@ pub fn rows(scalars: &[u8], n: usize, kind: Row, digits: &mut [i8])
 {
     let unit = places(kind);
     let m = lent::smaller(lent::smaller(n, scalars.len() / 32), digits.len() / unit);
-    let mut i: usize = 0;
-    while i < m {
+    for i in 0..m {
         let s = 32 * i;
-        let t = s + 32;
         let a = unit * i;
-        let e = a + unit;
-        row(&scalars[s..t], kind, &mut digits[a..e]);
-        i += 1;
+        row(&scalars[s..s + 32], kind, &mut digits[a..a + unit]);
     }
 }
 
 // The entries of a window.
+#[tactic(auto, unfolding(rules::specs::Helpers::window_entries))]
 fn entries(kind: Window) -> usize
     ensures { result ≡ window_entries kind }
 {
     match kind {
-        Window::Successive8 => 8,
-        Window::Odd8 => 8,
+        Window::Successive8 | Window::Odd8 => 8,
         Window::Odd64 => 64,
     }
 }
 
 // The window of a point, into its part.
+#[tactic(auto, unfolding(rules::specs::Helpers::made_window))]
 fn window(p: Element, kind: Window, part: &mut [u64]) -> Counts
     ensures { made result part.new ≡ made_window kind p part.old }
 {
     match kind {
-        Window::Successive8 => window::make_successive(p, &mut *part),
-        Window::Odd8 => window::make_odd8(p, &mut *part),
-        Window::Odd64 => window::make_odd64(p, &mut *part),
+        Window::Successive8 => window::make_successive(p, part),
+        Window::Odd8 => window::make_odd8(p, part),
+        Window::Odd64 => window::make_odd64(p, part),
     }
 }
 
@@ -88,14 +73,11 @@ pub fn windows(points: &[u64], n: usize, kind: Window, limbs: &mut [u64]) -> Cou
     let m = lent::smaller(lent::smaller(n, points.len() / 4), limbs.len() / unit);
     let mut additions: u64 = 0;
     let mut doublings: u64 = 0;
-    let mut i: usize = 0;
-    while i < m {
+    for i in 0..m {
         let a = unit * i;
-        let e = a + unit;
-        let made = window(flat::element_at(points, i), kind, &mut limbs[a..e]);
+        let made = window(flat::element_at(points, i), kind, &mut limbs[a..a + unit]);
         additions += made.additions;
         doublings += made.doublings;
-        i += 1;
     }
     Counts {
         additions,
@@ -104,10 +86,11 @@ pub fn windows(points: &[u64], n: usize, kind: Window, limbs: &mut [u64]) -> Cou
 }
 
 // The row (width 5) and the window of one slot, each into its part of lent memory.
+#[tactic(auto, unfolding(rules::specs::Helpers::filled_slot))]
 pub fn fill_slot(scalar: &[u8], point: Element, row: &mut [i8], window: &mut [u64]) -> Counts
     ensures { filled result row.new window.new ≡ filled_slot scalar.now point row.old window.old }
 {
     let digits = scalar::naf_row(scalar, 5);
-    copy_digits(&mut *row, &digits);
-    window::make_odd8(point, &mut *window)
+    room::put(row, &digits);
+    window::make_odd8(point, window)
 }

@@ -9,8 +9,6 @@ use lib.ListN.{length, get_or}
 use lib.IntN.{ℤ, pos, negsuc, nat_abs}
 use lib.Signed.{lt_z}
 use lib.Dec.{eqb, ltb}
-use mir.Syntax.{w8}
-use mir.Val.{SFits, to_z, of_z}
 use borrow.Author.Tests.{lt-ltb, le-ltb, ltb-false, eq-eqb, ne_eqb, eqb-true, eqb-false, not-false}
 use Rattle.rules.specs.declared.Element.{Element}
 use Rattle.rules.specs.Values.{limb, value_of, element_of, element_at, point_at}
@@ -23,7 +21,6 @@ use Rattle.rules.specs.Helpers.{looked_up}
 use Rattle.laws.specs.Conditions.{or-none, or_split, first-none}
 use Rattle.laws.specs.Windows.{selected-ext}
 use Rattle.laws.specs.Carried.{selected-carry, selected_odd-carry}
-use Rattle.digit.proofs.Machine.{back8}
 use Rattle.limbs.proofs.Elements.{Ranged, ranged-of, whole}
 use Rattle.residue.proofs.Members.{Member, negated-ranged}
 use Rattle.residue.proofs.Laws.{carries}
@@ -56,9 +53,6 @@ module _ (w : List ℕ) where
 -- an entry, negated for a negative digit
 abbrev pub by_sign : {A : Type 0} → Ops A → ℤ → A → A
 by_sign o d x = cond (lt_z d (pos 0)) (o.inv x) x
-
-pub sign-is : {A : Type 0} (o : Ops A) (d : ℤ) (x : A) → SFits w8 d → (b : Bool) → lt_z (to_z w8 (of_z w8 d)) (pos 0) ≡ b → cond b (o.inv x) x ≡ by_sign o d x
-sign-is o d x f b e = ap (λ (t : Bool). cond t (o.inv x) x) (sym e ∙ ap (λ (z : ℤ). lt_z z (pos 0)) (back8 d f))
 
 module _ {A : Type 0} (o : Ops A) (t : ℕ → A) where
   pub selected-sign : (d : ℤ) → by_sign o d (selected o t (pos (nat_abs d))) ≡ selected o t d

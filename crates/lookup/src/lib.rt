@@ -16,11 +16,9 @@ fn passed(window: &[u64], a: usize) -> Element
     ensures { result ≡ looked_up 8 window.now (pos a) }
 {
     let mut t = residue::identity();
-    let mut j: usize = 0;
-    while j < 8 {
+    for j in 0..8 {
         let e = flat::element_at(window, j);
-        j += 1;
-        if a == j {
+        if a == j + 1 {
             t = e;
         }
     }

@@ -58,7 +58,7 @@ pub fn optional_multiscalar_mul(
     laying::rows(scalars, m, Row::Radix(w), &mut *digits);
     let rows = Rows { digits, points, m };
     let q = rows.walk(w, &mut *buckets);
-    room::clear_digits(&mut *digits, 64 * m);
-    room::clear_limbs(&mut *buckets, 4 * buckets_count(w));
+    room::clear(&mut *digits, 0, 64 * m);
+    room::clear(&mut *buckets, 0, 4 * buckets_count(w));
     Ok(q)
 }

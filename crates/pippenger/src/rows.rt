@@ -44,7 +44,7 @@ impl<'a> Rows<'a> {
         requires { Placed 4 self.digits.now self.m j (4 * n) × ((1 < n) × (4 * n ≤ length buckets.old)) }
         ensures { ColumnMade elements 4 self.entry.digits.now (element_at self.entry.points.now) self.entry.m j n buckets.old buckets.new result.element result.additions }
     {
-        room::clear_limbs(&mut *buckets, 4 * n);
+        room::clear(&mut *buckets, 0, 4 * n);
         let put = self.put_all(j, &mut *buckets);
         let s = sum_buckets(buckets, n);
         Summed {

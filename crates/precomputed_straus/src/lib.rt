@@ -48,7 +48,7 @@ pub fn optional_mixed_multiscalar_mul(
     let e = 256 * (static_scalars.len() / 32 + p);
     let f = 32 * p;
     let w = lists.walk(&mut digits[..e], &mut limbs[..f]);
-    room::clear_digits(&mut *digits, e);
-    room::clear_limbs(&mut *limbs, f);
+    room::clear(&mut *digits, 0, e);
+    room::clear(&mut *limbs, 0, f);
     Ok(w)
 }

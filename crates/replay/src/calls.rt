@@ -6,7 +6,7 @@ mod rows;
 
 use crate::output::OutputBuffer;
 use crate::parts;
-use room::parts::{digit_room, limb_room};
+use room::parts::first_units_mut;
 
 // The answer to the case with this code, whose numbers stand by the kinds of its arguments; how many bytes wait then.
 pub(crate) fn answer(
@@ -19,8 +19,8 @@ pub(crate) fn answer(
     out: &mut OutputBuffer<'_>,
     at: usize,
 ) -> usize {
-    let d = digit_room(digits, 1, n[6] as usize);
-    let w = limb_room(windows, 1, n[7] as usize);
+    let d = first_units_mut(digits, 1, n[6] as usize);
+    let w = first_units_mut(windows, 1, n[7] as usize);
     if code < 16 {
         return plain(code, n, bytes, limbs, d, out, at);
     }

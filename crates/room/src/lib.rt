@@ -1,33 +1,30 @@
-// Lent room: its first units, and clearing.
+// Lent room: its first units, clearing it, and putting a list into its part.
 #![tactic(auto)]
 
-ghost use Rattle.std.specs.Prelude.{◌≡◌, pos};
+ghost use Rattle.std.specs.Prelude.{◌≡◌};
+ghost use Rattle.rules.specs.Lists.{put};
 ghost use Rattle.rules.specs.Numbers.{cleared};
 
 use lent::smaller;
 
 pub mod parts;
 
-// Zeros in the first n digits that there are.
-pub fn clear_digits(digits: &mut [i8], n: usize)
-    ensures { digits.new ≡ cleared (pos 0) n digits.old }
+// The given zero in the first n places that there are: of digits, limbs, or any other list.
+pub fn clear<T: Copy>(list: &mut [T], zero: T, n: usize)
+    ensures { list.new ≡ cleared zero n list.old }
 {
-    let end = smaller(n, digits.len());
-    let mut j: usize = 0;
-    while j < end {
-        digits[j] = 0;
-        j += 1;
+    let end = smaller(n, list.len());
+    for place in &mut list[..end] {
+        *place = zero;
     }
 }
 
-// Zeros in the first n limbs that there are.
-pub fn clear_limbs(limbs: &mut [u64], n: usize)
-    ensures { limbs.new ≡ cleared 0 n limbs.old }
+// A row or a window into its part, which is untouched where it has another length.
+pub fn put<T: Copy>(part: &mut [T], list: &[T])
+    ensures { part.new ≡ put list.now part.old }
 {
-    let end = smaller(n, limbs.len());
-    let mut i: usize = 0;
-    while i < end {
-        limbs[i] = 0;
-        i += 1;
+    if part.len() != list.len() {
+        return;
     }
+    part.copy_from_slice(list);
 }

@@ -15,34 +15,18 @@ fn places(unit: usize, n: usize, len: usize) -> usize
     len
 }
 
-// Scalars, or flags in units of one.
-pub fn bytes(scalars: &[u8], unit: usize, n: usize) -> &[u8]
-    ensures { result.now ≡ first_units unit n scalars.now }
+// Lent memory that a call reads: scalars, flags in units of one, points, or static tables in units of 256 limbs.
+pub fn first_units<T>(list: &[T], unit: usize, n: usize) -> &[T]
+    ensures { result.now ≡ first_units unit n list.now }
 {
-    let end = places(unit, n, scalars.len());
-    &scalars[..end]
+    let end = places(unit, n, list.len());
+    &list[..end]
 }
 
-// Points, or static tables in units of 256 limbs.
-pub fn limbs(points: &[u64], unit: usize, n: usize) -> &[u64]
-    ensures { result.now ≡ first_units unit n points.now }
+// Lent memory that a call may write: working room for n pairs, or the rows or windows of n slots.
+pub fn first_units_mut<T>(room: &mut [T], unit: usize, n: usize) -> &mut [T]
+    ensures { result.now ≡ first_units unit n room.old }
 {
-    let end = places(unit, n, points.len());
-    &points[..end]
-}
-
-// Digits that a call may write: working room for n pairs, or the rows of n slots.
-pub fn digit_room(digits: &mut [i8], unit: usize, n: usize) -> &mut [i8]
-    ensures { result.now ≡ first_units unit n digits.old }
-{
-    let end = places(unit, n, digits.len());
-    &mut digits[..end]
-}
-
-// Limbs that a call may write: working room for n pairs, or the windows of n slots.
-pub fn limb_room(windows: &mut [u64], unit: usize, n: usize) -> &mut [u64]
-    ensures { result.now ≡ first_units unit n windows.old }
-{
-    let end = places(unit, n, windows.len());
-    &mut windows[..end]
+    let end = places(unit, n, room.len());
+    &mut room[..end]
 }

@@ -24,8 +24,8 @@ pub fn multiscalar_mul(
     laying::rows(scalars, m, Row::Radix(4), &mut *digits);
     let made = laying::windows(points, m, Window::Successive8, &mut *limbs);
     let w = crate::radix_16::walk(&digits[..64 * m], &limbs[..32 * m]);
-    room::clear_digits(&mut *digits, 64 * m);
-    room::clear_limbs(&mut *limbs, 32 * m);
+    room::clear(&mut *digits, 0, 64 * m);
+    room::clear(&mut *limbs, 0, 32 * m);
     Ok(Walk {
         element: w.element,
         additions: made.additions + w.additions,
@@ -52,8 +52,8 @@ pub fn optional_multiscalar_mul(
     let rows = &digits[..e];
     let windows = &limbs[..f];
     let w = columns::walk(rows, windows, &rows[..0], &windows[..0], 256);
-    room::clear_digits(&mut *digits, e);
-    room::clear_limbs(&mut *limbs, f);
+    room::clear(&mut *digits, 0, e);
+    room::clear(&mut *limbs, 0, f);
     Ok(Walk {
         element: w.element,
         additions: made.additions + w.additions,

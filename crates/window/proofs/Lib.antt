@@ -1,2 +1,3 @@
 pub mod Flat
 mod Tables
+mod Stepping

@@ -45,4 +45,4 @@ pub returns : goal.returns
 unfolding picked_by
 returns c =
     done-after _ _ _ _ _ (sym c.refusal.ensures ∙ passed-as-0 c.in_ok-refusal.was) c.pairs-m.ensures c.width-w.ensures (passed _ c.pairs-m.ensures c.width-w.ensures c.refusal.ensures (passed-as-0 c.in_ok-refusal.was))
-    c.rows.ensures c.walk-q.ensures c.clear_digits.ensures c.buckets_count.ensures c.clear_limbs.ensures
+    c.rows.ensures c.walk-q.ensures c.clear.ensures c.buckets_count.ensures c.clear-2.ensures

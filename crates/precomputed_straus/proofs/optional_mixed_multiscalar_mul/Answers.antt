@@ -30,4 +30,4 @@ pub walk-w-requires : goal.walk-w-requires
 walk-w-requires c = ready _ _ _ _ _ c.args.digits.now c.args.limbs.now (sym c.refusal.ensures ∙ passed-as-0 c.in_ok-refusal.was) (λ i. (c.type_inv.dynamic_points i).fits)
 
 pub returns : goal.returns
-returns c = done-mixed _ _ _ _ _ c.args.digits.now c.args.limbs.now (sym c.refusal.ensures ∙ passed-as-0 c.in_ok-refusal.was) c.walk-w.new.digits c.walk-w.new.limbs c.walk-w.ensures c.walk-w.auto.digits c.walk-w.auto.limbs c.clear_digits.ensures c.clear_limbs.ensures
+returns c = done-mixed _ _ _ _ _ c.args.digits.now c.args.limbs.now (sym c.refusal.ensures ∙ passed-as-0 c.in_ok-refusal.was) c.walk-w.new.digits c.walk-w.new.limbs c.walk-w.ensures c.walk-w.auto.digits c.walk-w.auto.limbs c.clear.ensures c.clear-2.ensures

@@ -57,4 +57,4 @@ pub overflow_add-result-2 : goal.overflow_add-result-2
 overflow_add-result-2 c = omega (arith, radix-counts _ _ _ _ c.pairs-m.ensures (passed (goal.at.overflow_add-result-2 c).After-pairs-m) c.rows.ensures c.windows-made.ensures c.walk-w.ensures)
 
 pub returns : goal.returns
-returns c = radix-done _ _ _ _ c.pairs-m.ensures (passed (goal.at.returns c).After-pairs-m) c.rows.ensures c.windows-made.ensures c.walk-w.ensures c.clear_digits.ensures c.clear_limbs.ensures
+returns c = radix-done _ _ _ _ c.pairs-m.ensures (passed (goal.at.returns c).After-pairs-m) c.rows.ensures c.windows-made.ensures c.walk-w.ensures c.clear.ensures c.clear-2.ensures

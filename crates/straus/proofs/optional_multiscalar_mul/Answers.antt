@@ -57,5 +57,5 @@ overflow_add-result-2 c =
 pub returns : goal.returns
 returns c =
     naf-done _ _ _ _ _ c.pairs-m.ensures (passed (goal.at.returns c).After-pairs-m) (λ i. (c.type_inv.points i).fits) c.rows.ensures c.windows-made.ensures c.walk-w.ensures
-    c.clear_digits.ensures
-    c.clear_limbs.ensures
+    c.clear.ensures
+    c.clear-2.ensures

@@ -17,7 +17,7 @@ overflow_add-result c =
 pub returns : goal.returns
 returns c =
     record {
-      element = column-is elements element_at replaced 4 cells _ c.args.n c.args.buckets.now _ c.requires.0 c.requires.1.1 (emptied-long _ _ c.clear_limbs.ensures) (emptied _ _ c.clear_limbs.ensures) c.requires.1.0 c.put_all-put.ensures.1 c.sum_buckets-s.ensures.0;
+      element = column-is elements element_at replaced 4 cells _ c.args.n c.args.buckets.now _ c.requires.0 c.requires.1.1 (emptied-long _ _ c.clear.ensures) (emptied _ _ c.clear.ensures) c.requires.1.0 c.put_all-put.ensures.1 c.sum_buckets-s.ensures.0;
       additions = ap₂ (λ (x y : ℕ). x + y) c.put_all-put.ensures.0 c.sum_buckets-s.ensures.1;
-      kept = column-cleared elements element_at replaced 4 cells _ c.args.n c.args.buckets.now _ c.requires.0 c.requires.1.1 (emptied-long _ _ c.clear_limbs.ensures) (emptied-kept _ _ c.clear_limbs.ensures) c.put_all-put.ensures.1;
+      kept = column-cleared elements element_at replaced 4 cells _ c.args.n c.args.buckets.now _ c.requires.0 c.requires.1.1 (emptied-long _ _ c.clear.ensures) (emptied-kept _ _ c.clear.ensures) c.put_all-put.ensures.1;
     }
