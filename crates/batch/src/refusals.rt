@@ -85,14 +85,7 @@ fn wild(d: i8) -> bool
 fn any_wild(digits: &[i8]) -> bool
     ensures { result ≡ any_wild digits.now }
 {
-    let mut i: usize = 0;
-    while i < digits.len() {
-        if wild(digits[i]) {
-            return true;
-        }
-        i += 1;
-    }
-    false
+    digits.iter().any(|d| wild(*d))
 }
 
 // The number that a total answers.

@@ -75,36 +75,6 @@ fn total(rt: &impl Print, ready: bool, digits: &[i8], windows: &[u64]) {
     text(rt, b"\n");
 }
 
-// Digits are the same where they are as many and equal at each place.
-fn same_digits(a: &[i8], b: &[i8]) -> bool {
-    if a.len() != b.len() {
-        return false;
-    }
-    let mut i: usize = 0;
-    while i < a.len() {
-        if a[i] != b[i] {
-            return false;
-        }
-        i += 1;
-    }
-    true
-}
-
-// Limbs are compared as digits are.
-fn same_limbs(a: &[u64], b: &[u64]) -> bool {
-    if a.len() != b.len() {
-        return false;
-    }
-    let mut i: usize = 0;
-    while i < a.len() {
-        if a[i] != b[i] {
-            return false;
-        }
-        i += 1;
-    }
-    true
-}
-
 // A slot is read back: its row gives the scalar, and the first entry of its window is the point.
 fn read_back(rt: &impl Print, digits: &[i8], windows: &[u64], slot: usize) {
     if digits.len() / SLOT_DIGITS <= slot {
@@ -182,7 +152,7 @@ fn main(rt: HostRuntime) {
     let refused = batch::set(&mut digits, &mut windows, 3, &scalar(4), point);
     let accepted = done(&rt, b"set slot 3, which the batch has not", refused);
     total(&rt, ready & accepted, &digits, &windows);
-    if same_digits(&digits_before, &digits) & same_limbs(&windows_before, &windows) {
+    if (digits == digits_before) & (windows == windows_before) {
         text(&rt, b"  nothing changed\n");
     }
 
