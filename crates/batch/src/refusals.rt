@@ -72,13 +72,7 @@ fn wild(d: i8) -> bool
     ensures { result ≡ wild_digit d }
 {
     let m = digit::magnitude(d);
-    if m == 0 {
-        return false;
-    }
-    if m % 2 == 0 {
-        return true;
-    }
-    15 < m
+    (m != 0) & ((m % 2 == 0) | (15 < m))
 }
 
 // 10: whether a prepared digit is so.

@@ -5,7 +5,7 @@ use Rattle.std.proofs.lemmas.Iterator.{YieldsList-from_slice}
 use Rattle.std.proofs.lemmas.Iterator.Search.{any_from_yields_List}
 use lib.IntN.{pos}
 use Rattle.rules.specs.Lists.{wild_digit, any_wild}
-use Rattle.batch.proofs.WildDigits.{any-listed}
+use Rattle.batch.proofs.Listed.{any-listed}
 use Rattle.batch.proofs.refusals.any_wild.Goals as goal
 
 pub returns : goal.returns
