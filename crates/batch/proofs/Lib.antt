@@ -1,2 +1,2 @@
 pub mod Batches
-mod WildDigits
+mod Listed

@@ -55,11 +55,14 @@ fn set_point(
     if residue::over(p) {
         return answer::refused_counted(7);
     }
-    let a = SLOT_DIGITS * slot;
-    let e = a + SLOT_DIGITS;
-    let b = SLOT_LIMBS * slot;
-    let f = b + SLOT_LIMBS;
-    answer::counted(laying::fill_slot(scalar, p, &mut digits[a..e], &mut windows[b..f]))
+    let row = SLOT_DIGITS * slot;
+    let window = SLOT_LIMBS * slot;
+    answer::counted(laying::fill_slot(
+        scalar,
+        p,
+        &mut digits[row..row + SLOT_DIGITS],
+        &mut windows[window..window + SLOT_LIMBS],
+    ))
 }
 
 // One slot set to a scalar and an optional point.

@@ -72,27 +72,14 @@ fn wild(d: i8) -> bool
     ensures { result ≡ wild_digit d }
 {
     let m = digit::magnitude(d);
-    if m == 0 {
-        return false;
-    }
-    if m % 2 == 0 {
-        return true;
-    }
-    15 < m
+    (m != 0) & ((m % 2 == 0) | (15 < m))
 }
 
 // 10: whether a prepared digit is so.
 fn any_wild(digits: &[i8]) -> bool
     ensures { result ≡ any_wild digits.now }
 {
-    let mut i: usize = 0;
-    while i < digits.len() {
-        if wild(digits[i]) {
-            return true;
-        }
-        i += 1;
-    }
-    false
+    digits.iter().any(|d| wild(*d))
 }
 
 // The number that a total answers.

@@ -4,6 +4,7 @@
 use batch::{POINT_LIMBS, SCALAR_BYTES, SLOT_DIGITS, SLOT_LIMBS};
 use room::parts;
 use rules::{Counted, OptionalPoint};
+use std::fmt;
 
 // The orders of the story are three.
 const ORDERS: usize = 3;
@@ -27,117 +28,88 @@ fn scalar(k: u8) -> [u8; SCALAR_BYTES] {
     bytes
 }
 
-// Text goes to standard output as it is.
-fn text(rt: &impl Print, bytes: &[u8]) {
-    let _ = rt.write_all(bytes);
+// A number of four limbs, as the library hands it back.
+#[derive(Clone, Copy)]
+struct Number([u64; POINT_LIMBS]);
+
+// It is written in decimal where it fits one limb, and else as 64 hex digits, highest first.
+impl fmt::Display for Number {
+    fn fmt<W: fmt::Write>(&self, f: &mut fmt::Formatter<W>) -> fmt::Result {
+        let [a, b, c, d] = self.0;
+        if (b == 0) & (c == 0) & (d == 0) {
+            write!(f, "{a}")
+        } else {
+            write!(f, "{d:016x}{c:016x}{b:016x}{a:016x}")
+        }
+    }
 }
 
-// A long value is written as 64 hex digits, highest first.
-fn hex(rt: &impl Print, value: [u64; POINT_LIMBS]) {
-    let [a, b, c, d] = value;
-    let _ = print!(rt; "{d:016x}{c:016x}{b:016x}{a:016x}");
+// Why there is no total.
+#[derive(Clone, Copy)]
+enum NoTotal {
+    Refused,
+    NoBatch,
 }
 
-// A value is written in decimal where it fits one limb, and in hex where it does not.
-fn write(rt: &impl Print, value: [u64; POINT_LIMBS]) {
-    if (value[1] == 0) & (value[2] == 0) & (value[3] == 0) {
-        let limb = value[0];
-        let _ = print!(rt; "{limb}");
-    } else {
-        hex(rt, value);
+impl fmt::Display for NoTotal {
+    fn fmt<W: fmt::Write>(&self, f: &mut fmt::Formatter<W>) -> fmt::Result {
+        f.write_str(match self {
+            NoTotal::Refused => "a call was refused",
+            NoTotal::NoBatch => "this memory is no batch",
+        })
     }
 }
 
 // A call is done where its number is 0; the number is written either way.
-fn done(rt: &impl Print, call: &[u8], answer: Counted) -> bool {
-    text(rt, call);
-    text(rt, b": number ");
+fn done(rt: &impl Print, call: &str, answer: Counted) -> Result<(), NoTotal> {
     let number = answer.number;
-    let _ = print!(rt; "{number}");
-    text(rt, b"\n");
-    answer.number == 0
+    let _ = print!(rt; "{call}: number {number}\n");
+    if number == 0 {
+        Ok(())
+    } else {
+        Err(NoTotal::Refused)
+    }
 }
 
 // The total is taken only where preparing and every edit were done.
-fn total(rt: &impl Print, ready: bool, digits: &[i8], windows: &[u64]) {
-    if !ready {
-        text(rt, b"  no total: a call was refused\n");
-        return;
-    }
+fn total(ready: Result<(), NoTotal>, digits: &[i8], windows: &[u64]) -> Result<Number, NoTotal> {
+    ready?;
     let sum = batch::total(digits, windows);
-    if sum.number != 0 {
-        text(rt, b"  no total: this memory is no batch\n");
-        return;
+    if sum.number == 0 {
+        Ok(Number(sum.value))
+    } else {
+        Err(NoTotal::NoBatch)
     }
-    let value = sum.value;
-    text(rt, b"  total ");
-    write(rt, value);
-    text(rt, b"\n");
 }
 
-// Digits are the same where they are as many and equal at each place.
-fn same_digits(a: &[i8], b: &[i8]) -> bool {
-    if a.len() != b.len() {
-        return false;
-    }
-    let mut i: usize = 0;
-    while i < a.len() {
-        if a[i] != b[i] {
-            return false;
-        }
-        i += 1;
-    }
-    true
-}
-
-// Limbs are compared as digits are.
-fn same_limbs(a: &[u64], b: &[u64]) -> bool {
-    if a.len() != b.len() {
-        return false;
-    }
-    let mut i: usize = 0;
-    while i < a.len() {
-        if a[i] != b[i] {
-            return false;
-        }
-        i += 1;
-    }
-    true
+// The total is written, or why there is none.
+fn report(rt: &impl Print, ready: Result<(), NoTotal>, digits: &[i8], windows: &[u64]) {
+    let _ = match total(ready, digits, windows) {
+        Ok(sum) => print!(rt; "  total {sum}\n"),
+        Err(why) => print!(rt; "  no total: {why}\n"),
+    };
 }
 
 // A slot is read back: its row gives the scalar, and the first entry of its window is the point.
 fn read_back(rt: &impl Print, digits: &[i8], windows: &[u64], slot: usize) {
-    if digits.len() / SLOT_DIGITS <= slot {
-        text(rt, b"  there is no such slot\n");
+    let Some(row) = digits.chunks_exact(SLOT_DIGITS).nth(slot) else {
+        let _ = print!(rt; "  there is no such slot\n");
         return;
-    }
-    let from = SLOT_DIGITS * slot;
-    let read = reader::read_naf(&digits[from..from + SLOT_DIGITS], 5);
+    };
+    let read = reader::read_naf(row, 5);
     if read.number != 0 {
-        text(rt, b"  no scalar has this row\n");
+        let _ = print!(rt; "  no scalar has this row\n");
         return;
     }
     let bytes = read.bytes;
-    text(rt, b"  scalar ");
-    write(rt, flat::array(words::element(&bytes)));
-    text(rt, b", point ");
-    write(
-        rt,
-        flat::array(flat::element_at(windows, SLOT_LIMBS / POINT_LIMBS * slot)),
-    );
-    text(rt, b"\n");
+    let scalar = Number(flat::array(words::element(&bytes)));
+    let point = Number(flat::array(flat::element_at(windows, SLOT_LIMBS / POINT_LIMBS * slot)));
+    let _ = print!(rt; "  scalar {scalar}, point {point}\n");
 }
 
 // The orders before the first whose point is missing can go, and they are counted.
 fn waiting(flags: &[u8]) -> usize {
-    let mut n: usize = 0;
-    while n < flags.len() {
-        if flags[n] == 0 {
-            return n;
-        }
-        n += 1;
-    }
-    n
+    flags.iter().take_while(|flag| **flag != 0).count()
 }
 
 // How many orders go is known at run time only: the first n of each list and of the memory are lent.
@@ -151,8 +123,8 @@ fn launch(rt: &impl Print, scalars: &[u8], points: &[u64], flags: &[u8]) {
     let d = parts::first_units_mut(&mut digits, SLOT_DIGITS, n);
     let w = parts::first_units_mut(&mut windows, SLOT_LIMBS, n);
     let prepared = batch::prepare(s, p, f, &mut *d, &mut *w);
-    let ready = done(rt, b"prepare the orders that have their points", prepared);
-    total(rt, ready, d, w);
+    let ready = done(rt, "prepare the orders that have their points", prepared);
+    report(rt, ready, d, w);
 }
 
 // Three orders are prepared and edited, an edit is refused and mended, and in the end as many go as have their points.
@@ -162,33 +134,33 @@ fn main(rt: HostRuntime) {
     let mut digits = [0i8; ORDERS * SLOT_DIGITS];
     let mut windows = [0u64; ORDERS * SLOT_LIMBS];
     let prepared = batch::prepare(&scalars(), &points, &flags, &mut digits, &mut windows);
-    let ready = done(&rt, b"prepare three orders", prepared);
-    total(&rt, ready, &digits, &windows);
+    let ready = done(&rt, "prepare three orders", prepared);
+    report(&rt, ready, &digits, &windows);
 
     let one = flat::element_at(&[1u64, 0, 0, 0], 0);
     let point = OptionalPoint::Present(one);
     let edited = batch::set(&mut digits, &mut windows, 1, &scalar(1), point);
-    let ready = ready & done(&rt, b"set slot 1 to scalar 1 and point 1", edited);
-    total(&rt, ready, &digits, &windows);
+    let ready = ready.and(done(&rt, "set slot 1 to scalar 1 and point 1", edited));
+    report(&rt, ready, &digits, &windows);
 
     let cleared = batch::clear(&mut digits, &mut windows, 0);
-    let ready = ready & done(&rt, b"clear slot 0", cleared);
-    total(&rt, ready, &digits, &windows);
+    let ready = ready.and(done(&rt, "clear slot 0", cleared));
+    report(&rt, ready, &digits, &windows);
 
     // A refused edit writes nothing, and there is no total until it is mended.
     let digits_before = digits;
     let windows_before = windows;
     let point = OptionalPoint::Present(residue::negative(one));
     let refused = batch::set(&mut digits, &mut windows, 3, &scalar(4), point);
-    let accepted = done(&rt, b"set slot 3, which the batch has not", refused);
-    total(&rt, ready & accepted, &digits, &windows);
-    if same_digits(&digits_before, &digits) & same_limbs(&windows_before, &windows) {
-        text(&rt, b"  nothing changed\n");
+    let accepted = done(&rt, "set slot 3, which the batch has not", refused);
+    report(&rt, ready.and(accepted), &digits, &windows);
+    if (digits == digits_before) & (windows == windows_before) {
+        let _ = print!(&rt; "  nothing changed\n");
     }
 
     let mended = batch::set(&mut digits, &mut windows, 2, &scalar(4), point);
-    let ready = ready & done(&rt, b"set slot 2 to scalar 4 and point L - 1", mended);
-    total(&rt, ready, &digits, &windows);
+    let ready = ready.and(done(&rt, "set slot 2 to scalar 4 and point L - 1", mended));
+    report(&rt, ready, &digits, &windows);
     read_back(&rt, &digits, &windows, 2);
 
     launch(&rt, &scalars(), &points, &[1u8, 1, 0]);

@@ -3,7 +3,6 @@ use mathlib.Core.Path.{◌≡◌, refl, sym, ap, ap₂, ◌∙◌}
 use mathlib.Core.Bool.{true, false}
 use mathlib.Core.List.{List}
 use Prim.Native.Nat.{ℕ, zero, suc, ◌+◌, ◌-◌, ◌*◌, ◌<◌, ◌≤◌}
-use native.Mathlib.Nat.{mul-suc}
 use native.Mathlib.Omega.{arith}
 use lib.IntN.{ℤ, pos, negsuc, nat_abs}
 use lib.ListN.{length, take, drop}
@@ -29,19 +28,6 @@ module _ {A : Type 0} (o : Ops A) (read : List ℕ → ℕ → A) (store : List 
   module _ (some : of_z w8 z ≡ 0 → ⊥) {n : ℕ} (en : n ≡ nat_abs (to_z w8 (of_z w8 z))) where
     size : n ≡ nat_abs z
     size = en ∙ ap nat_abs (M.back8 z f)
-
-    pub put_some : 1 ≤ n
-    put_some = go z size (M.not-zero z some)
-      where
-        go : (z : ℤ) → n ≡ nat_abs z → (z ≡ pos 0 → ⊥) → 1 ≤ n
-        go (pos zero) e h = absurd (h refl)
-        go (pos (suc k)) e h = omega arith
-        go (negsuc k) e h = omega arith
-
-    pub put-room : (b : ℕ) → u * nat_abs z ≤ b → u * (n - 1) + u ≤ b
-    put-room b h =
-        let e : nat_abs z ≡ suc (n - 1) = omega (arith, put_some, size) in
-        rw (e, mul-suc) at h
 
     module _ (p : A) (l : List ℕ) {b x : A} {l' : List ℕ} (eb : b ≡ read l (n - 1)) (el : l' ≡ store l (n - 1) x) where
       pub put-below : lt_z (to_z w8 (of_z w8 z)) (pos 0) ≡ true → x ≡ o.sub b p → (1 ≡ nonzero z) × (l' ≡ put_in o read store z p l)

@@ -1,10 +1,10 @@
 -- A loop that copies a list, place by place, into a part of its length; and a window, limb by limb.
-use mathlib.Core.Path.{◌≡◌, sym, ◌∙◌, ap}
+use mathlib.Core.Path.{◌≡◌, sym, ◌∙◌}
 use mathlib.Core.List.{List, [], ◌++◌, append-nil}
 use Prim.Native.Nat.{ℕ, suc, ◌+◌, ◌*◌, ◌/◌, ◌%◌, ◌<◌, ◌≤◌}
 use native.Mathlib.Omega.{arith}
 use native.Mathlib.Numerals.{add-one}
-use lib.ListN.{length, get_or, set, take, drop, length-append, length-take, length-drop, drop_of_length-le}
+use lib.ListN.{length, get_or, set, take, drop, drop_of_length-le}
 use lib.Seq.{length-take-le, take_all, take-suc, drop-cons, append_snoc, set_at}
 use Rattle.rules.specs.Lists.{put, joined}
 use Rattle.laws.proofs.Puts.{put_same, put_other}
@@ -13,12 +13,6 @@ use Rattle.laws.proofs.Joined.{joined_length, joined_at}
 
 -- x is copied into a part l₀ of its length: at the place i the part l holds the first i of x
 module _ {A : Type 0} (x l₀ : List A) (h : length l₀ ≡ length x) (i : ℕ) (l : List A) (s : l ≡ take i x ++ drop i l₀) where
-  pub copy-long : i ≤ length x → length l ≡ length l₀
-  copy-long g = ap length s ∙ simp (length-append, length-take, length-drop) (omega arith)
-
-  pub copy-inside : i < length x → i < length l
-  copy-inside g = omega (arith, copy-long (omega arith))
-
   pub copy-turn : (d : A) → i < length x → (v : A) → v ≡ get_or x i d → set l i v ≡ take (i + 1) x ++ drop (i + 1) l₀
   copy-turn d g v e =
       rw (s, e, add-one i, drop-cons l₀ i d (omega arith), set_at (take i x) (get_or l₀ i d) (drop (suc i) l₀) (get_or x i d) i (length-take-le i x (omega arith)), take-suc x i d g)
@@ -38,9 +32,6 @@ module _ (u : ℕ) (some : 0 < u) (w : List (List ℕ)) (each : Each u w) where
   module _ (l₀ : List ℕ) (h : length l₀ ≡ u * length w) (i : ℕ) (l : List ℕ) (s : l ≡ take i (joined w) ++ drop i l₀) where
     same : length l₀ ≡ length (joined w)
     same = h ∙ sym long
-
-    pub window-long : i ≤ length l₀ → length l ≡ length l₀
-    window-long g = copy-long (joined w) l₀ same i l s (omega (arith, same))
 
     pub window-turn : i < length l₀ → set l i (get_or (get_or w (i / u) []) (i % u) 0) ≡ take (i + 1) (joined w) ++ drop (i + 1) l₀
     window-turn g = copy-turn (joined w) l₀ same i l s 0 (omega (arith, same)) (get_or (get_or w (i / u) []) (i % u) 0) (joined_at u some w each i (omega (arith, h)))

@@ -5,7 +5,7 @@ use Prim.Native.Nat.{ℕ, ◌+◌, ◌-◌, ◌<◌, ◌≤◌}
 use native.Mathlib.Numerals.{add-one}
 use native.Mathlib.Omega.{arith}
 use lib.ListN.{length, get_or, set, take, length-set}
-use lib.Seq.{take_all, take-suc, take-suc-set}
+use lib.Seq.{take-suc, take-suc-set}
 use Rattle.rules.specs.declared.Element.{Element}
 use Rattle.rules.specs.Values.{flat}
 use Rattle.rules.specs.Group.{Ops, elements}
@@ -63,11 +63,6 @@ module _ {A : Type 0} (o : Ops A) (limbs : A → List ℕ) (n : ℕ) (s p : A) w
               ∙ ap₂ ◌++◌ b.entries (g ∙ ap limbs new)
               ∙ more i;
         }
-
-    pub built-all : n ≤ i → (joined t ≡ flat_in limbs (stepped o s p) n) × (additions ≡ n - 1)
-    built-all h =
-        let e : i ≡ n = omega (arith, b.within) in
-        (ap joined (sym (take_all i t (omega (arith, b.long)))) ∙ b.entries ∙ ap (flat_in limbs (stepped o s p)) e, omega (arith, b.made))
 
 -- what making a window leaves, from what the loop left and the copy of it
 module _ (n : ℕ) (l : List ℕ) (w : List (List ℕ)) {x : List ℕ} {additions : ℕ} (a : additions ≡ n - 1) (c : x ≡ put (joined w) l) where

@@ -11,12 +11,8 @@ fn order() -> [u64; POINT_LIMBS] {
 
 // The 32 bytes of four limbs as 64 hex digits.
 fn print(rt: &impl Print, value: [u64; POINT_LIMBS]) {
-    let bytes = words::bytes(&value);
-    let mut k: usize = 0;
-    while k < SCALAR_BYTES {
-        let byte = bytes[k];
+    for byte in words::bytes(&value) {
         let _ = print!(rt; "{byte:02x}");
-        k += 1;
     }
 }
 

@@ -10,23 +10,23 @@ pub returns-then-over : goal.returns-then-over
 unfolding set_slot
 returns-then-over c = refused-is (λ z. omega arith) _ _ _ _ _ _ (over-is _ _ _ _ c.requires _ (sym c.over.ensures ∙ c.if-over.true)) c.refused_counted.ensures
 
-pub overflow_mul-a : goal.overflow_mul-a
-overflow_mul-a c = omega (arith, (edge-inside _ _ _ _ c.requires).few)
+pub overflow_mul-row : goal.overflow_mul-row
+overflow_mul-row c = omega (arith, (edge-inside _ _ _ _ c.requires).few)
 
-pub overflow_add-e : goal.overflow_add-e
-overflow_add-e c = omega (arith, (edge-inside _ _ _ _ c.requires).few)
+pub overflow_add-row : goal.overflow_add-row
+overflow_add-row c = omega (arith, (edge-inside _ _ _ _ c.requires).few)
 
-pub overflow_mul-b : goal.overflow_mul-b
-overflow_mul-b c = omega (arith, (edge-inside _ _ _ _ c.requires).few)
+pub overflow_mul-window : goal.overflow_mul-window
+overflow_mul-window c = omega (arith, (edge-inside _ _ _ _ c.requires).few)
 
-pub overflow_add-f : goal.overflow_add-f
-overflow_add-f c = omega (arith, (edge-inside _ _ _ _ c.requires).few)
+pub overflow_add-window : goal.overflow_add-window
+overflow_add-window c = omega (arith, (edge-inside _ _ _ _ c.requires).few)
 
 pub slice_bounds-fill_slot-end : goal.slice_bounds-fill_slot-end
-slice_bounds-fill_slot-end c = (edge-inside _ _ _ _ c.requires).digits-fit
+slice_bounds-fill_slot-end c = omega (arith, (edge-inside _ _ _ _ c.requires).digits-fit)
 
 pub slice_bounds-fill_slot-end-2 : goal.slice_bounds-fill_slot-end-2
-slice_bounds-fill_slot-end-2 c = (edge-inside _ _ _ _ c.requires).windows-fit
+slice_bounds-fill_slot-end-2 c = omega (arith, (edge-inside _ _ _ _ c.requires).windows-fit)
 
 pub returns : goal.returns
 returns c =
