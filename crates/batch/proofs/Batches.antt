@@ -9,14 +9,14 @@ use lib.ListN.{length, get_or, take, drop}
 use lib.IntN.{ℤ}
 use lib.Dec.{leb, lit<, lit≤}
 use borrow.Author.Tests.{eqb-true, ltb-false, leb-false, not-false}
-use Rattle.std.specs.Prelude.{Option, Some, None}
+use Rattle.std.specs.Prelude.{Option, Some, None, Result, Ok}
+use Rattle.rules.specs.declared.Refusal.{Refusal}
 use Rattle.rules.specs.declared.Element.{Element}
 use Rattle.rules.specs.declared.Row.TheVariants.{Naf}
 use Rattle.rules.specs.declared.Window.TheVariants.{Odd8}
 use Rattle.rules.specs.declared.Counts.{Counts}
 use Rattle.rules.specs.declared.Counted.{Counted}
 use Rattle.rules.specs.declared.Walk.{Walk}
-use Rattle.rules.specs.declared.Sum.{Sum}
 use Rattle.rules.specs.Values.{limb, value_of, element_of, part, point_at, scalar_at}
 use Rattle.rules.specs.Group.{L, elements, residues}
 use Rattle.rules.specs.Loops.{weight}
@@ -26,12 +26,13 @@ use Rattle.rules.specs.Rows.{naf_row_of, width_off}
 use Rattle.rules.specs.Windows.{odd, any_over}
 use Rattle.rules.specs.Engines.{entry_sum, entry_at}
 use Rattle.rules.specs.Batch.{Memory, AfterEdit, memory_of, after_edit, edge_conditions, edge_refusal, slot_row, slot_window, slot_digit, memory_not_whole, prepare, prepare_refusal, fresh, set_slot, set_in, set_refusal, value_in, total_of, total_refusal}
-use Rattle.rules.specs.Helpers.{Made, laid_rows, laid_windows, Filled, filled_slot, walked, elements_flat, counted_done, sum_done, made_odd_in}
+use Rattle.rules.specs.Helpers.{Made, laid_rows, laid_windows, Filled, filled_slot, walked, elements_flat, made_odd_in}
 use Rattle.laws.specs.Conditions.{or_split, first-none, joined-here, joined-next, given-done, given-refused}
 use Rattle.laws.specs.Walk.{Named}
 use Rattle.laws.specs.Weight.{weight-none}
 use Rattle.lent.proofs.Passed.{there-under}
-use Rattle.laws.specs.Results.{refused-counted, done-counted}
+use Rattle.rules.specs.Results.{as_counted, as_sum}
+use Rattle.laws.specs.Results.{Refused, refused-not-0, refused-counted, done-counted}
 use Rattle.limbs.proofs.Done.{done-sum}
 use Rattle.limbs.proofs.Elements.{Ranged}
 use Rattle.window.proofs.Flat.{odd-limbs, limbs-length}
@@ -71,14 +72,14 @@ module _ (ds : List ℤ) (ws : List ℕ) where
   entries-in k s i j hi hj = entry-under 8 ws k i _ s.below (omega (arith, s.windows-are)) hi
 
   -- what the walk over it leaves is its total
-  pub total-is : (ds' : List ℤ) (ts : List ℕ) (w : Walk) (r : Sum) → length ds' ≡ 0 → length ts ≡ 0 → total_refusal (memory_of ds ws) ≡ 0
-      → w ≡ walked ds ws ds' ts 256 → r ≡ sum_done w.element w.additions w.doublings → r ≡ total_of (memory_of ds ws)
+  pub total-is : (ds' : List ℤ) (ts : List ℕ) (w : Walk) → length ds' ≡ 0 → length ts ≡ 0 → total_refusal (memory_of ds ws) ≡ 0
+      → w ≡ walked ds ws ds' ts 256 → as_sum (Ok w) ≡ total_of (memory_of ds ws)
   unfolding total_of
-  total-is ds' ts w r ed et z ew er =
+  total-is ds' ts w ed et z ew =
       let k : ℕ = length ds / 256 in
       let s = summable z in
       let q = ew ∙ walked-entries ds ws ds' ts 256 k 0 256 (rows_are 32 k ds ws (lit< tt) s.digits_are s.windows-are) (rows_are 256 0 ds' ts (lit< tt) ed et) refl (entries-in k s) (λ i j hi hj. absurd (omega arith)) in
-      done-sum z _ er
+      done-sum z _
       (ap (λ (x : Walk). x.element) q
       ∙ ap (λ (e : ℕ). element_of ((entry_sum (slot_digit ds) (entry_at 32 ws) k 256 + e) % L)) (entries_none (slot_digit ds') (entry_at 256 ts) 0 256)
       ∙ ap (λ (e : ℕ). element_of (e % L)) (add-zero _))
@@ -117,25 +118,25 @@ preparable ss ps fs d w e =
     }
 
 -- what laying the rows and windows of such a list leaves
-pub prepare-is : (ss ps fs : List ℕ) (ds : List ℤ) (ws : List ℕ) (c : Counts) (d : List ℤ) (w : List ℕ) (r : Counted) → ((k : ℕ) → get_or ps k 0 < limb)
+pub prepare-is : (ss ps fs : List ℕ) (ds : List ℤ) (ws : List ℕ) (c : Counts) (d : List ℤ) (w : List ℕ) → ((k : ℕ) → get_or ps k 0 < limb)
     → prepare_refusal ss ps fs (length ds) (length ws) ≡ 0 → d ≡ laid_rows (Naf 5) ss (scalar_count ss) ds
-    → ◌≡◌ {A = Made} (record { counts = c; limbs = w }) (laid_windows Odd8 ps (scalar_count ss) ws) → r ≡ counted_done c
-    → after_edit r d w ≡ prepare ss ps fs (memory_of ds ws)
+    → ◌≡◌ {A = Made} (record { counts = c; limbs = w }) (laid_windows Odd8 ps (scalar_count ss) ws)
+    → after_edit (as_counted (Ok c)) d w ≡ prepare ss ps fs (memory_of ds ws)
 unfolding prepare fresh slot_row slot_window
-prepare-is ss ps fs ds ws c d w r range z ed ew er =
+prepare-is ss ps fs ds ws c d w range z ed ew =
     let s = preparable ss ps fs (length ds) (length ws) z in
     let n : ℕ = scalar_count ss in
     let q = ew ∙ odd8-laid ps n ws (omega (arith, s.equal)) range s.below (omega (arith, s.windows-are)) in
-    both (done-counted z er (ap (λ (m : Made). m.counts.additions) q) (ap (λ (m : Made). m.counts.doublings) q))
+    both (done-counted z (ap (λ (m : Made). m.counts.additions) q) (ap (λ (m : Made). m.counts.doublings) q))
     (ap₂ (λ (x : List ℤ) (y : List ℕ). memory_of x y)
     (ed ∙ naf-laid 5 (lit≤ tt) ss n ds (le_refl n) (lit≤ tt) (omega (arith, s.digits_are)) ∙ laid-all 256 _ n ds (λ i _. naf-length 5 (scalar_at ss i)) s.digits_are)
     (ap (λ (m : Made). m.limbs) q ∙ laid-all 32 _ n ws (λ i _. limbs-length (odd residues (point_at ps i)) 8) s.windows-are)
     ∙ sym (ap (λ (k : ℕ). given k (memory_of ds ws) (fresh ss ps n)) z ∙ given-done _ (fresh ss ps n)))
 
 -- a refused call on memory
-pub refused-is : {n : ℕ} (h : n ≡ 0 → ⊥) (m x : Memory) (a b k : ℕ) (r : Counted) → n ≡ k → r ≡ counted n 0 0
-    → ◌≡◌ {A = AfterEdit} (record { result = r; memory = m }) (record { result = counted k a b; memory = given k m x })
-refused-is h m x a b k r e er = ap₂ (λ (s : Counted) (t : Memory). record { result = s; memory = t }) (refused-counted e h a b er) (sym (given-refused m x k (λ z. h (e ∙ z))))
+pub refused-is : {y : Result Counts Refusal} {k : ℕ} → Refused y k → (m x : Memory) (a b : ℕ)
+    → ◌≡◌ {A = AfterEdit} (record { result = as_counted y; memory = m }) (record { result = counted k a b; memory = given k m x })
+refused-is r m x a b = both (refused-counted r a b) (sym (given-refused m x _ (refused-not-0 r)))
 
 -- ---- edits
 
@@ -197,14 +198,13 @@ module _ (ds : List ℤ) (ws : List ℕ) (slot : ℕ) (s : List ℕ) (z : edge_r
     window-long = ap length window ∙ limbs-length (odd residues (value_of e)) 8
 
     -- what filling the slot's parts leaves
-    pub set_is : (c : Counts) (d : List ℤ) (w : List ℕ) (r : Counted)
+    pub set_is : (c : Counts) (d : List ℤ) (w : List ℕ)
         → ◌≡◌ {A = Filled} (record { counts = c; digits = d; windows = w }) (filled_slot s e (take (256 * slot + 256 - 256 * slot) (drop (256 * slot) ds)) (take (32 * slot + 32 - 32 * slot) (drop (32 * slot) ws)))
-        → r ≡ counted_done c
-        → ◌≡◌ {A = AfterEdit} (after_edit r (take (256 * slot) ds ++ (d ++ drop (256 * slot + 256 - 256 * slot) (drop (256 * slot) ds))) (take (32 * slot) ws ++ (w ++ drop (32 * slot + 32 - 32 * slot) (drop (32 * slot) ws)))) (set_slot (memory_of ds ws) slot s (Some e))
+        → ◌≡◌ {A = AfterEdit} (after_edit (as_counted (Ok c)) (take (256 * slot) ds ++ (d ++ drop (256 * slot + 256 - 256 * slot) (drop (256 * slot) ds))) (take (32 * slot) ws ++ (w ++ drop (32 * slot + 32 - 32 * slot) (drop (32 * slot) ws)))) (set_slot (memory_of ds ws) slot s (Some e))
     unfolding set_slot set_in filled_slot made_odd_in value_in
-    set_is c d w r ef er =
+    set_is c d w ef =
         let i = edge-inside _ _ slot s z in
-        both (done-counted taken er (ap (λ (f : Filled). f.counts.additions) ef) (ap (λ (f : Filled). f.counts.doublings) ef))
+        both (done-counted taken (ap (λ (f : Filled). f.counts.additions) ef) (ap (λ (f : Filled). f.counts.doublings) ef))
         (ap₂ (λ (x : List ℤ) (y : List ℕ). memory_of x y)
         (ap (λ (f : Filled). take (256 * slot) ds ++ (f.digits ++ drop (256 * slot + 256 - 256 * slot) (drop (256 * slot) ds))) ef
         ∙ put-stored (256 * slot) (256 * slot + 256) (naf_row_of s 5) ds (ap (λ (n : ℕ). 256 * slot + n) (sym row-long)) i.digits-fit

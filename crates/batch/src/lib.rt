@@ -2,11 +2,11 @@
 #![tactic(auto)]
 
 ghost use Rattle.std.specs.Prelude.{◌≡◌, length};
-ghost use Rattle.rules.specs.declared.OptionalPoint.TheVariants.{Present};
+ghost use Rattle.rules.specs.Results.{as_counted, as_sum};
 ghost use Rattle.rules.specs.Batch.{memory_of, after_edit, prepare, edge_refusal, set_slot, clear_slot, total_of};
 // The most slots of a batch, and the most scalars or points of a list: more are refused by 2.
 pub use lent::MOST;
-use rules::{Counted, Element, OptionalPoint, Row, Sum, Window};
+use rules::{Counts, Element, Refusal, Row, Walk, Window};
 
 pub(crate) mod refusals;
 
@@ -29,16 +29,13 @@ pub fn prepare(
     flags: &[u8],
     digits: &mut [i8],
     windows: &mut [u64],
-) -> Counted
-    ensures { after_edit result digits.new windows.new ≡ prepare scalars.now points.now flags.now (memory_of digits.old windows.old) }
+) -> Result<Counts, Refusal>
+    ensures { after_edit (as_counted result) digits.new windows.new ≡ prepare scalars.now points.now flags.now (memory_of digits.old windows.old) }
 {
-    let n = crate::refusals::prepare_refusal(scalars, points, flags, digits.len(), windows.len());
-    if n != 0 {
-        return answer::refused_counted(n);
-    }
+    crate::refusals::prepare_refusal(scalars, points, flags, digits.len(), windows.len())?;
     let k = scalars.len() / SCALAR_BYTES;
     laying::rows(scalars, k, Row::Naf(5), &mut *digits);
-    answer::counted(laying::windows(points, k, Window::Odd8, &mut *windows))
+    Ok(laying::windows(points, k, Window::Odd8, &mut *windows))
 }
 
 // One slot set to a scalar and a point: its row and its window are written, nothing else is read or touched.
@@ -48,16 +45,16 @@ fn set_point(
     slot: usize,
     scalar: &[u8],
     p: Element,
-) -> Counted
+) -> Result<Counts, Refusal>
     requires { edge_refusal (length digits.old) (length windows.old) slot scalar.now ≡ 0 }
-    ensures { after_edit result digits.new windows.new ≡ set_slot (memory_of digits.old windows.old) slot scalar.now (Present p) }
+    ensures { after_edit (as_counted result) digits.new windows.new ≡ set_slot (memory_of digits.old windows.old) slot scalar.now (Some p) }
 {
     if residue::over(p) {
-        return answer::refused_counted(7);
+        return Err(Refusal::BadPoint);
     }
     let row = SLOT_DIGITS * slot;
     let window = SLOT_LIMBS * slot;
-    answer::counted(laying::fill_slot(
+    Ok(laying::fill_slot(
         scalar,
         p,
         &mut digits[row..row + SLOT_DIGITS],
@@ -71,37 +68,36 @@ pub fn set(
     windows: &mut [u64],
     slot: usize,
     scalar: &[u8],
-    point: OptionalPoint,
-) -> Counted
-    ensures { after_edit result digits.new windows.new ≡ set_slot (memory_of digits.old windows.old) slot scalar.now point }
+    point: Option<Element>,
+) -> Result<Counts, Refusal>
+    ensures { after_edit (as_counted result) digits.new windows.new ≡ set_slot (memory_of digits.old windows.old) slot scalar.now point }
 {
-    let n = crate::refusals::set_refusal(digits.len(), windows.len(), slot, scalar);
-    if n != 0 {
-        return answer::refused_counted(n);
-    }
-    let OptionalPoint::Present(p) = point else {
-        return answer::refused_counted(8);
+    crate::refusals::set_refusal(digits.len(), windows.len(), slot, scalar)?;
+    let Some(p) = point else {
+        return Err(Refusal::AbsentPoint);
     };
     set_point(&mut *digits, &mut *windows, slot, scalar, p)
 }
 
 // One slot set to scalar 0 and point 0.
-pub fn clear(digits: &mut [i8], windows: &mut [u64], slot: usize) -> Counted
-    ensures { after_edit result digits.new windows.new ≡ clear_slot (memory_of digits.old windows.old) slot }
+pub fn clear(digits: &mut [i8], windows: &mut [u64], slot: usize) -> Result<Counts, Refusal>
+    ensures { after_edit (as_counted result) digits.new windows.new ≡ clear_slot (memory_of digits.old windows.old) slot }
 {
     let zero = [0u8; SCALAR_BYTES];
-    let identity = OptionalPoint::Present(residue::identity());
+    let identity = Some(residue::identity());
     set(&mut *digits, &mut *windows, slot, &zero, identity)
 }
 
 // The sum over all slots as they stand.
-pub fn total(digits: &[i8], windows: &[u64]) -> Sum
-    ensures { result ≡ total_of (memory_of digits.now windows.now) }
+pub fn total(digits: &[i8], windows: &[u64]) -> Result<Walk, Refusal>
+    ensures { as_sum result ≡ total_of (memory_of digits.now windows.now) }
 {
-    let n = crate::refusals::total_refusal(digits, windows);
-    if n != 0 {
-        return answer::refused_sum(n);
-    }
-    let w = columns::walk(digits, windows, &digits[..0], &windows[..0], SLOT_DIGITS);
-    answer::sum(w.element, w.additions, w.doublings)
+    crate::refusals::total_refusal(digits, windows)?;
+    Ok(columns::walk(
+        digits,
+        windows,
+        &digits[..0],
+        &windows[..0],
+        SLOT_DIGITS,
+    ))
 }

@@ -46,6 +46,11 @@ handed-on {e = e} {k = k} {m = m} by on is asked =
     let n : number_of k ≡ m = rw is at asked in
     rw by record { number = ap number_of on ∙ n; not-0 = refusal-not-0 e }
 
+-- a call that answers a refusal of its own
+pub told : {B : Type 0} (r : Refusal) {m : ℕ} → number_of r ≡ m → Refused {B = B} (Err r) m
+unfolding as_number
+told r e = record { number = e; not-0 = refusal-not-0 r }
+
 pub refused-not-0 : {B : Type 0} {y : Result B Refusal} {m : ℕ} → Refused y m → m ≡ 0 → ⊥
 refused-not-0 r z = r.not-0 (r.number ∙ z)
 

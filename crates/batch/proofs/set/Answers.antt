@@ -1,15 +1,24 @@
--- Refused by its number before the point, or by 8; else what setting the point leaves.
+-- Refused before the point, or by 8; else what setting the point leaves.
 use mathlib.Core.Path.{sym, ap, ◌∙◌}
-use native.Mathlib.Omega.{arith}
+use Rattle.std.proofs.lemmas.Result.{err_from_is_err_and}
+use Rattle.rules.specs.declared.Refusal.TheVariants.{AbsentPoint}
+use Rattle.rules.specs.Numbers.{number_of}
 use Rattle.rules.specs.Batch.{set_slot, set_refusal}
+use Rattle.laws.specs.Results.{passed-as-0, handed-on, told}
 use Rattle.batch.proofs.Batches.{refused-is, edge-refused, absent-is}
 use Rattle.batch.proofs.set.Goals as goal
 
-pub returns-then-n-ne0 : goal.returns-then-n-ne0
+pub returns-in_err-set_refusal : goal.returns-in_err-set_refusal
 unfolding set_slot
-returns-then-n-ne0 c = refused-is c.if-n-ne0.true _ _ _ _ _ _ (edge-refused _ _ _ _ _ _ c.set_refusal-n.ensures c.if-n-ne0.true) c.refused_counted.ensures
+returns-in_err-set_refusal c =
+    let p = err_from_is_err_and c.from_residual.result c.from_residual.ensures.1 in
+    let r = handed-on p.1 p.2 c.in_err-set_refusal.was c.set_refusal.ensures in
+    refused-is (record { number = edge-refused _ _ _ _ _ _ r.number r.not-0; not-0 = r.not-0 }) _ _ _ _
 
 pub returns-in_default : goal.returns-in_default
-unfolding set_slot
+unfolding set_slot number_of
 returns-in_default c =
-    refused-is (λ z. omega arith) _ _ _ _ _ _ (absent-is _ _ _ _ (sym c.set_refusal-n.ensures ∙ c.if-n-ne0.false) ∙ ap (set_refusal _ _ _ _) (sym c.in_default.is)) c.refused_counted-in_default.ensures
+    refused-is (told AbsentPoint (absent-is _ _ _ _ (sym c.set_refusal.ensures ∙ passed-as-0 c.in_ok-set_refusal.was) ∙ ap (set_refusal _ _ _ _) (sym c.in_default.is))) _ _ _ _
+
+pub set_point-requires : goal.set_point-requires
+set_point-requires c = sym c.set_refusal.ensures ∙ passed-as-0 c.in_ok-set_refusal.was

@@ -1,14 +1,17 @@
 -- Refused by 7, else what filling the slot's parts leaves.
 use mathlib.Core.Path.{sym, ◌∙◌}
 use native.Mathlib.Omega.{arith}
+use Rattle.rules.specs.declared.Refusal.TheVariants.{BadPoint}
+use Rattle.rules.specs.Numbers.{number_of}
 use Rattle.rules.specs.Batch.{set_slot}
+use Rattle.laws.specs.Results.{told}
 use Rattle.limbs.proofs.Elements.{Ranged}
 use Rattle.batch.proofs.Batches.{refused-is, edge-inside, over-is, set_is}
 use Rattle.batch.proofs.set_point.Goals as goal
 
 pub returns-then-over : goal.returns-then-over
-unfolding set_slot
-returns-then-over c = refused-is (λ z. omega arith) _ _ _ _ _ _ (over-is _ _ _ _ c.requires _ (sym c.over.ensures ∙ c.if-over.true)) c.refused_counted.ensures
+unfolding set_slot number_of
+returns-then-over c = refused-is (told BadPoint (over-is _ _ _ _ c.requires _ (sym c.over.ensures ∙ c.if-over.true))) _ _ _ _
 
 pub overflow_mul-row : goal.overflow_mul-row
 overflow_mul-row c = omega (arith, (edge-inside _ _ _ _ c.requires).few)
@@ -32,4 +35,4 @@ pub returns : goal.returns
 returns c =
     let g = c.well_formed in
     let range : Ranged c.args.p = record { r0 = omega (arith, g); r1 = omega (arith, g); r2 = omega (arith, g); r3 = omega (arith, g) } in
-    set_is _ _ _ _ c.requires _ range (sym c.over.ensures ∙ c.if-over.false) _ _ _ _ c.fill_slot.ensures c.counted.ensures
+    set_is _ _ _ _ c.requires _ range (sym c.over.ensures ∙ c.if-over.false) _ _ _ c.fill_slot.ensures

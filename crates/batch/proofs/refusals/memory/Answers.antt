@@ -2,6 +2,7 @@
 use mathlib.Core.Path.{◌≡◌, sym, ap, ◌∙◌}
 use mathlib.Core.Bool.{Bool, ◌||◌}
 use Prim.Native.Nat.{ℕ, ◌*◌, ◌/◌}
+use Rattle.rules.specs.Numbers.{as_number, number_of}
 use Rattle.rules.specs.Lists.{not_in, other_than}
 use Rattle.rules.specs.Batch.{memory_not_whole}
 use Rattle.laws.specs.Conditions.{first-here, first_next, first-end}
@@ -13,15 +14,15 @@ unfolding memory_not_whole
 whole d w n e = ap (λ (b : Bool). b || other_than (32 * (d / 256)) w) e
 
 pub returns-then-not_whole-windows : goal.returns-then-not_whole-windows
-unfolding other_than
+unfolding other_than as_number number_of
 returns-then-not_whole-windows c = first-here _ _ _ (sym (whole _ _ _ c.not_whole.ensures) ∙ c.if-not_whole-windows.true)
 
 pub returns-then-too_many : goal.returns-then-too_many
-unfolding other_than
+unfolding other_than as_number number_of
 returns-then-too_many c =
     first_next _ _ _ _ (sym (whole _ _ _ c.not_whole.ensures) ∙ c.if-not_whole-windows.false) (first-here _ _ _ (sym c.too_many.ensures ∙ c.if-too_many.true))
 
 pub returns : goal.returns
-unfolding other_than
+unfolding other_than as_number number_of
 returns c =
     first_next _ _ _ _ (sym (whole _ _ _ c.not_whole.ensures) ∙ c.if-not_whole-windows.false) (first_next _ _ _ _ (sym c.too_many.ensures ∙ c.if-too_many.false) first-end)
