@@ -38,6 +38,7 @@ fn store(limbs: &mut [u64], k: usize, e: Element)
 }
 
 // A point into bucket |d| - 1 by its row's digit d at place j: added, or taken away where d is negative. Additions made.
+// It answers its additions, 0 or 1, beside the change: with a struct of buckets and count each contract would speak of a field of a field.
 pub(crate) fn put(row: &[i8], j: usize, p: Element, buckets: &mut [u64]) -> u64
     requires { (j < length row.now) × (4 * nat_abs (digit row.now j) ≤ length buckets.old) }
     ensures { (result ≡ nonzero (digit row.now j)) × (buckets.new ≡ put_flat (digit row.now j) p buckets.old) }
