@@ -35,6 +35,7 @@ pub(crate) enum Call {
 impl TryFrom<u8> for Call {
     type Error = Malformed;
 
+    // The call of this code.
     fn try_from(code: u8) -> Result<Call, Malformed> {
         Ok(match code {
             1 => Call::Add,

@@ -19,7 +19,7 @@ pub(crate) struct Input {
     ghost inside: { end ≤ 65536 },
 }
 
-// Bytes read until the buffer is full, the input ends or a read fails; how many they are.
+// Bytes read until the buffer is full, the input ends or a read fails; how many they are. How far a read comes is known only after it, so that this loop is no `for`.
 fn filled(from: Stdin, buffer: &mut [u8]) -> usize
     ensures { result ≤ length buffer.new }
 {

@@ -16,10 +16,12 @@ pub(crate) trait Item: Copy {
 impl Item for u8 {
     type Bytes = [u8; 1];
 
+    // A byte of the input.
     fn read(input: &mut Input) -> Result<u8, Malformed> {
         input.byte()
     }
 
+    // The byte itself.
     fn bytes(self) -> [u8; 1] {
         [self]
     }
@@ -28,10 +30,12 @@ impl Item for u8 {
 impl Item for i8 {
     type Bytes = [u8; 1];
 
+    // A byte of the input, in two's complement.
     fn read(input: &mut Input) -> Result<i8, Malformed> {
         Ok(i8::from_le_bytes(input.bytes()?))
     }
 
+    // The byte that stands for it.
     fn bytes(self) -> [u8; 1] {
         self.to_le_bytes()
     }
@@ -40,10 +44,12 @@ impl Item for i8 {
 impl Item for u64 {
     type Bytes = [u8; 8];
 
+    // Eight bytes of the input, lowest first.
     fn read(input: &mut Input) -> Result<u64, Malformed> {
         Ok(u64::from_le_bytes(input.bytes()?))
     }
 
+    // These eight bytes.
     fn bytes(self) -> [u8; 8] {
         self.to_le_bytes()
     }
@@ -60,6 +66,7 @@ enum Mode {
 impl TryFrom<u8> for Mode {
     type Error = Malformed;
 
+    // The mode of this number.
     fn try_from(mode: u8) -> Result<Mode, Malformed> {
         match mode {
             0 => Ok(Mode::Each),

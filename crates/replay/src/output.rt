@@ -19,6 +19,7 @@ pub(crate) struct Output {
 }
 
 impl fmt::Write for Output {
+    // A text behind the bytes that wait.
     fn write_str(&mut self, text: &str) -> fmt::Result {
         for byte in text.as_bytes() {
             self.byte(*byte);
@@ -32,6 +33,7 @@ impl fmt::Write for Output {
 struct Hex<'a, T>(&'a [T]);
 
 impl<T: Item> fmt::Display for Hex<'_, T> {
+    // Item after item.
     fn fmt<W: fmt::Write>(&self, f: &mut fmt::Formatter<W>) -> fmt::Result {
         for x in self.0 {
             bytes(*x, f)?;
