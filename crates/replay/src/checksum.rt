@@ -1,71 +1,33 @@
 // The checksum of a long list that a call may write.
-ghost use Rattle.replay.specs.Checksum.{Small};
+ghost use Rattle.std.specs.Prelude.{◌<◌};
 
-use crate::output::byte_of;
+use crate::list::Item;
+use std::convert::AsSlice;
 
 // The checksum's two running sums, modulo 4294967291.
 #[derive(Clone, Copy)]
-pub(crate) struct Sums {
-    pub s: u64,
-    pub t: u64,
+struct Sums {
+    s: u64,
+    t: u64,
+    ghost small_s: { s < 4294967291 },
+    ghost small_t: { t < 4294967291 },
 }
 
-// The sums over no bytes.
-fn none() -> Sums
-    ensures { Small result.s result.t }
-{
-    Sums { s: 1, t: 0 }
-}
-
-// The sums over one byte more.
-fn mixed(c: Sums, byte: u8) -> Sums
-    requires { Small c.s c.t }
-    ensures { Small result.s result.t }
-{
-    let s = (c.s + byte as u64 + 1) % 4294967291;
-    let t = (c.t + s) % 4294967291;
-    Sums { s: s, t: t }
-}
-
-// The checksum of the bytes that were mixed in.
-fn checksum(c: Sums) -> u64
-    requires { Small c.s c.t }
-{
-    c.t * 4294967296 + c.s
-}
-
-// The checksum of a list of digits, a byte a digit.
-pub(crate) fn of_digits(list: &[i8]) -> u64 {
-    let mut c = none();
-    let mut i: usize = 0;
-    while i < list.len() {
-        c = mixed(c, byte_of(list[i]));
-        i += 1;
+impl Sums {
+    // The sums over one item more.
+    fn add<T: Item>(&mut self, x: T) {
+        for byte in x.bytes().as_slice() {
+            self.s = (self.s + u64::from(*byte) + 1) % 4294967291;
+            self.t = (self.t + self.s) % 4294967291;
+        }
     }
-    checksum(c)
 }
 
-// The sums over the eight bytes of a limb more.
-fn mixed_limb(c: Sums, limb: u64) -> Sums
-    requires { Small c.s c.t }
-    ensures { Small result.s result.t }
-{
-    let mut c = c;
-    let mut k: usize = 0;
-    while k < 8 {
-        c = mixed(c, words::byte_of(limb, k));
-        k += 1;
+// The checksum of a list.
+pub(crate) fn checksum<T: Item>(list: &[T]) -> u64 {
+    let mut sums = Sums { s: 1, t: 0 };
+    for x in list {
+        sums.add(*x);
     }
-    c
-}
-
-// The checksum of a list of limbs, eight bytes a limb.
-pub(crate) fn of_limbs(list: &[u64]) -> u64 {
-    let mut c = none();
-    let mut i: usize = 0;
-    while i < list.len() {
-        c = mixed_limb(c, list[i]);
-        i += 1;
-    }
-    checksum(c)
+    sums.t << 32 | sums.s
 }

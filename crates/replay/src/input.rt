@@ -1,127 +1,102 @@
 // The cases on standard input: bytes through a buffer, and numbers.
-ghost use Rattle.std.specs.Prelude.{◌≤◌, length};
+ghost use Rattle.std.specs.Prelude.{◌<◌, ◌≤◌, IsOk, length};
 
+use rules::{Element, OptionalPoint};
 use std::io::{Read, Stdin};
 
-// Standard input, and the buffer that it fills.
-#[derive(Drop)]
-pub(crate) struct InputBuffer<'a> {
-    from: Stdin,
-    bytes: &'a mut [u8],
-}
-
-// Standard input with this buffer.
-pub(crate) fn read_by(from: Stdin, bytes: &mut [u8]) -> InputBuffer<'_> {
-    InputBuffer { from, bytes }
-}
-
-// Where reader and writer stand: the next byte of the input's buffer and how many are in it, the number read last, how many bytes wait in the output's buffer, and whether the case is malformed.
+// A case that is malformed, or the end of the input.
 #[derive(Clone, Copy)]
-pub(crate) struct State {
-    pub at: usize,
-    pub end: usize,
-    pub number: u64,
-    pub put: usize,
-    pub bad: bool,
+pub(crate) struct Malformed;
+
+// Standard input, the buffer that it fills, the place of the next byte there, and how many bytes it has.
+#[derive(Drop)]
+pub(crate) struct Input {
+    from: Stdin,
+    buffer: [u8; 65536],
+    at: usize,
+    end: usize,
+    ghost ordered: { at ≤ end },
+    ghost inside: { end ≤ 65536 },
 }
 
-// Nothing read, nothing written.
-pub(crate) fn start() -> State {
-    State {
-        at: 0,
-        end: 0,
-        number: 0,
-        put: 0,
-        bad: false,
-    }
-}
-
-// The same place with another number in hand.
-pub(crate) fn with_number(s: State, number: u64) -> State {
-    let mut r = s;
-    r.number = number;
-    r
-}
-
-// The same place with other bytes waiting to be written.
-pub(crate) fn with_put(s: State, put: usize) -> State {
-    let mut r = s;
-    r.put = put;
-    r
-}
-
-// Malformed where this holds, with 0 in hand then.
-pub(crate) fn bad_if(s: State, bad: bool) -> State {
-    let mut r = s;
-    if bad {
-        r.number = 0;
-        r.bad = true;
-    }
-    r
-}
-
-// A byte of the buffer in hand, and the place behind it.
-fn taken(s: State, byte: u8, at: usize, end: usize) -> State {
-    let mut r = s;
-    r.number = byte as u64;
-    r.at = at;
-    r.end = end;
-    r
-}
-
-// Bytes read until the buffer is full, the input ends or a read fails; how many they are.
-fn read_full(from: Stdin, bytes: &mut [u8]) -> usize
-    ensures { result ≤ length bytes.new }
+// Bytes read until the buffer is full, the input ends or a read fails; how many they are. How far a read comes is known only after it, so that this loop is no `for`.
+fn filled(from: Stdin, buffer: &mut [u8]) -> usize
+    ensures { result ≤ length buffer.new }
 {
     let mut from = from;
-    let mut done: usize = 0;
-    while done < bytes.len() {
-        let Ok(n) = from.read(&mut bytes[done..]) else {
-            break;
-        };
-        if n == 0 {
-            break;
+    let mut done = 0;
+    while done < buffer.len() {
+        match from.read(&mut buffer[done..]) {
+            Ok(0) | Err(_) => break,
+            Ok(n) => done += n,
         }
-        done += n;
     }
     done
 }
 
-// The buffer filled again, and its first byte; malformed where the input has ended.
-fn refill(input: &mut InputBuffer<'_>, s: State) -> State {
-    let end = read_full(input.from, &mut *input.bytes);
-    if end == 0 {
-        return bad_if(s, true);
-    }
-    taken(s, input.bytes[0], 1, end)
-}
-
-// The next byte; a malformed case has none.
-pub(crate) fn next(input: &mut InputBuffer<'_>, s: State) -> State {
-    if s.bad {
-        return s;
-    }
-    let at = s.at;
-    let end = s.end;
-    if at < end {
-        if at < input.bytes.len() {
-            return taken(s, input.bytes[at], at + 1, end);
+impl Input {
+    // Standard input, of which nothing is read.
+    pub(crate) fn new(from: Stdin) -> Input {
+        Input {
+            from,
+            buffer: [0; 65536],
+            at: 0,
+            end: 0,
         }
     }
-    refill(input, s)
-}
 
-// The next number of so many bits, lowest byte first.
-pub(crate) fn number(input: &mut InputBuffer<'_>, bits: usize, s: State) -> State
-    requires { bits ≤ 64 }
-{
-    let mut s = s;
-    let mut x: u64 = 0;
-    let mut k: usize = 0;
-    while k < bits {
-        s = next(input, s);
-        x = x | (s.number << k);
-        k += 8;
+    // The buffer filled again, which fails where the input has ended.
+    fn refill(&mut self) -> Result<(), Malformed>
+        ensures { IsOk result → self.new.at < self.new.end }
+    {
+        let end = filled(self.from, &mut self.buffer);
+        self.at = 0;
+        self.end = end;
+        if end == 0 { Err(Malformed) } else { Ok(()) }
     }
-    with_number(s, x)
+
+    // The next byte.
+    pub(crate) fn byte(&mut self) -> Result<u8, Malformed> {
+        if self.at == self.end {
+            self.refill()?;
+        }
+        let byte = self.buffer[self.at];
+        self.at += 1;
+        Ok(byte)
+    }
+
+    // The next bytes.
+    pub(crate) fn bytes<const N: usize>(&mut self) -> Result<[u8; N], Malformed> {
+        let mut bytes = [0; N];
+        for byte in &mut bytes {
+            *byte = self.byte()?;
+        }
+        Ok(bytes)
+    }
+
+    // A number of four bytes, lowest first.
+    pub(crate) fn count(&mut self) -> Result<usize, Malformed> {
+        Ok(u32::from_le_bytes(self.bytes()?) as usize)
+    }
+
+    // A number of eight bytes, lowest first.
+    pub(crate) fn number(&mut self) -> Result<usize, Malformed> {
+        Ok(usize::from_le_bytes(self.bytes()?))
+    }
+
+    // An optional point: a flag, 0 or 1, and four limbs in either case.
+    pub(crate) fn point(&mut self) -> Result<OptionalPoint, Malformed> {
+        let flag = self.byte()?;
+        let point = Element {
+            l0: u64::from_le_bytes(self.bytes()?),
+            l1: u64::from_le_bytes(self.bytes()?),
+            l2: u64::from_le_bytes(self.bytes()?),
+            l3: u64::from_le_bytes(self.bytes()?),
+        };
+        match flag {
+            0 => Ok(OptionalPoint::Absent),
+            1 => Ok(OptionalPoint::Present(point)),
+            _ => Err(Malformed),
+        }
+    }
 }

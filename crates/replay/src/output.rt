@@ -1,138 +1,129 @@
-// The text on standard output: bytes through a buffer, decimal and hexadecimal numbers, checksums. Each function is given how many bytes wait in the buffer, and answers how many do after it.
-ghost use Rattle.std.specs.Prelude.{◌<◌};
+// The lines on standard output: texts, numbers and lists through a buffer.
+ghost use Rattle.std.specs.Prelude.{◌≡◌, ◌≤◌};
 
-use crate::parts;
+use crate::checksum::checksum;
+use crate::list::Item;
+use rules::{Counted, Sum};
+use std::convert::AsSlice;
+use std::fmt;
+use std::fmt::Write as _;
 use std::io::{Stdout, Write};
 
-// Standard output, and the buffer in which bytes wait for it.
+// Standard output, the buffer in which bytes wait for it, and how many do.
 #[derive(Drop)]
-pub(crate) struct OutputBuffer<'a> {
+pub(crate) struct Output {
     to: Stdout,
-    bytes: &'a mut [u8],
+    buffer: [u8; 65536],
+    waiting: usize,
+    ghost inside: { waiting ≤ 65536 },
 }
 
-// Standard output with this buffer.
-pub(crate) fn written_by(to: Stdout, bytes: &mut [u8]) -> OutputBuffer<'_> {
-    OutputBuffer { to, bytes }
-}
-
-// A byte behind those that wait, which are written where the buffer is full.
-pub(crate) fn put(out: &mut OutputBuffer<'_>, at: usize, byte: u8) -> usize {
-    if at < out.bytes.len() {
-        out.bytes[at] = byte;
-        return at + 1;
+impl fmt::Write for Output {
+    // A text behind the bytes that wait.
+    fn write_str(&mut self, text: &str) -> fmt::Result {
+        for byte in text.as_bytes() {
+            self.byte(*byte);
+        }
+        Ok(())
     }
-    let mut to = out.to;
-    let _ = to.write_all(out.bytes);
-    if out.bytes.len() == 0 {
-        return 0;
+}
+
+// A list's content, two hexadecimal digits a byte.
+#[derive(Drop)]
+struct Hex<'a, T>(&'a [T]);
+
+impl<T: Item> fmt::Display for Hex<'_, T> {
+    // Item after item.
+    fn fmt<W: fmt::Write>(&self, f: &mut fmt::Formatter<W>) -> fmt::Result {
+        for x in self.0 {
+            bytes(*x, f)?;
+        }
+        Ok(())
     }
-    out.bytes[0] = byte;
-    1
 }
 
-// What waits is written.
-pub(crate) fn flush(out: &mut OutputBuffer<'_>, at: usize) {
-    let mut to = out.to;
-    let _ = to.write_all(parts::bytes(out.bytes, 0, at as u64));
-}
-
-// A text.
-pub(crate) fn text(out: &mut OutputBuffer<'_>, at: usize, t: &[u8]) -> usize {
-    let mut at = at;
-    let mut i: usize = 0;
-    while i < t.len() {
-        at = put(out, at, t[i]);
-        i += 1;
+// An item's bytes likewise.
+fn bytes<T: Item, W: fmt::Write>(x: T, f: &mut fmt::Formatter<W>) -> fmt::Result {
+    for byte in x.bytes().as_slice() {
+        write!(f, "{byte:02x}")?;
     }
-    at
+    Ok(())
 }
 
-// A number, decimal.
-pub(crate) fn decimal(out: &mut OutputBuffer<'_>, at: usize, n: u64) -> usize {
-    let mut at = at;
-    if n > 9 {
-        at = decimal(out, at, n / 10);
+impl Output {
+    // Standard output, for which nothing waits.
+    pub(crate) fn new(to: Stdout) -> Output {
+        Output {
+            to,
+            buffer: [0; 65536],
+            waiting: 0,
+        }
     }
-    put(out, at, 48 + (n % 10) as u8)
-}
 
-// A checksum, 16 hexadecimal digits behind a #.
-pub(crate) fn checksum(out: &mut OutputBuffer<'_>, at: usize, n: u64) -> usize {
-    let at = put(out, at, 35);
-    hex_bytes(out, at, &n.to_be_bytes())
-}
-
-// The last line, where case number n is malformed.
-pub(crate) fn malformed(out: &mut OutputBuffer<'_>, at: usize, n: u64) {
-    let at = text(out, at, b"malformed at case ");
-    let at = decimal(out, at, n);
-    let at = put(out, at, 10);
-    flush(out, at);
-}
-
-// The hexadecimal digit of a number below 16.
-fn glyph(n: u8) -> u8
-    requires { n < 16 }
-{
-    if n < 10 { 48 + n } else { 87 + n }
-}
-
-// A byte, two hexadecimal digits.
-fn hex_byte(out: &mut OutputBuffer<'_>, at: usize, byte: u8) -> usize {
-    let at = put(out, at, glyph(byte / 16));
-    put(out, at, glyph(byte % 16))
-}
-
-// A digit's byte, two's complement.
-pub(crate) fn byte_of(d: i8) -> u8 {
-    let m = (digit::magnitude(d) % 256) as u8;
-    if d < 0 {
-        return std::num::wrapping_sub_u8(0, m);
+    // What waits is written; a write that fails loses it.
+    pub(crate) fn flush(&mut self)
+        ensures { self.new.waiting ≡ 0 }
+    {
+        let mut to = self.to;
+        let _ = to.write_all(&self.buffer[..self.waiting]);
+        self.waiting = 0;
     }
-    m
-}
 
-// Bytes, in hexadecimal.
-pub(crate) fn hex_bytes(out: &mut OutputBuffer<'_>, at: usize, list: &[u8]) -> usize {
-    let mut at = at;
-    let mut i: usize = 0;
-    while i < list.len() {
-        at = hex_byte(out, at, list[i]);
-        i += 1;
+    // A byte behind those that wait, which are written where the buffer is full.
+    fn byte(&mut self, byte: u8) {
+        if self.waiting == 65536 {
+            self.flush();
+        }
+        self.buffer[self.waiting] = byte;
+        self.waiting += 1;
     }
-    at
-}
 
-// Digits likewise.
-pub(crate) fn hex_digits(out: &mut OutputBuffer<'_>, at: usize, list: &[i8]) -> usize {
-    let mut at = at;
-    let mut i: usize = 0;
-    while i < list.len() {
-        at = hex_byte(out, at, byte_of(list[i]));
-        i += 1;
+    // The line of an answer that carries a value alone.
+    pub(crate) fn value<T: Item>(&mut self, number: u8, value: &[T]) {
+        let _ = writeln!(self, "{number} {} - -", Hex(value));
     }
-    at
-}
 
-// A limb, its lowest byte first.
-fn hex_limb(out: &mut OutputBuffer<'_>, at: usize, limb: u64) -> usize {
-    let mut at = at;
-    let mut k: usize = 0;
-    while k < 8 {
-        at = hex_byte(out, at, words::byte_of(limb, k));
-        k += 1;
+    // An answer that carries counts alone; lent lists are to follow.
+    pub(crate) fn counted(&mut self, r: Counted) {
+        let _ = write!(self, "{} - {} {}", r.number, r.additions, r.doublings);
     }
-    at
-}
 
-// Limbs likewise.
-pub(crate) fn hex_limbs(out: &mut OutputBuffer<'_>, at: usize, list: &[u64]) -> usize {
-    let mut at = at;
-    let mut i: usize = 0;
-    while i < list.len() {
-        at = hex_limb(out, at, list[i]);
-        i += 1;
+    // An answer that carries a sum and what it took; lent lists may follow.
+    pub(crate) fn sum(&mut self, r: Sum) {
+        let _ = write!(
+            self,
+            "{} {} {} {}",
+            r.number,
+            Hex(&r.value),
+            r.additions,
+            r.doublings
+        );
     }
-    at
+
+    // A lent list: the number of its elements, and its content in full up to 64 bytes.
+    pub(crate) fn lent<T: Item>(&mut self, list: &[T]) {
+        let _ = write!(self, " {}:", list.len());
+        let _ = if size_of_val(list) <= 64 {
+            write!(self, "{}", Hex(list))
+        } else {
+            write!(self, "#{:016x}", checksum(list))
+        };
+    }
+
+    // The digits and windows that a call may write, and the end of the line.
+    pub(crate) fn both(&mut self, digits: &[i8], windows: &[u64]) {
+        self.lent(digits);
+        self.lent(windows);
+        self.end();
+    }
+
+    // The end of a line.
+    pub(crate) fn end(&mut self) {
+        self.byte(b'\n');
+    }
+
+    // The last line, where case k is malformed.
+    pub(crate) fn malformed(&mut self, k: u64) {
+        let _ = writeln!(self, "malformed at case {k}");
+    }
 }
