@@ -10,6 +10,7 @@ mod refusal;
 pub use refusal::recode_refusal;
 
 // The first 32 bytes as 64-bit words, lowest first; the fifth is 0.
+#[tactic(auto, unfolding(rules::specs::Helpers::five_words))]
 pub fn five_words(scalar: &[u8]) -> [u64; 5]
     ensures { result ≡ five_words scalar.now }
 {
