@@ -1,4 +1,4 @@
--- Eight bits of the machine read as signed: what its casts and its wrapping difference are as numbers.
+-- Eight bits of the machine read as signed: what its wrapping difference is as a number.
 use Rattle.std.proofs.Common.{◌≡◌, ℕ, suc, ◌+◌, ◌-◌, ◌*◌, ◌%◌, ◌^◌, ◌<◌, ◌≤◌, pos, negsuc, sym, refl, ap, ◌∙◌, arith, w8, to_z, le-ltb, lt-ltb}
 use native.Mathlib.Decide.{dec_lt}
 use lib.IntN.{sub_ℕ}
