@@ -4,20 +4,12 @@ use Prim.Native.Nat.{ℕ, zero, suc, ◌+◌, ◌*◌, ◌/◌, ◌%◌, ◌^◌
 use native.Mathlib.Omega.{arith}
 use native.Mathlib.Decide.{dec_lt}
 use borrow.Author.Tests.{lt-ltb, le-ltb}
-use lib.Bits.{bit_and, and_mask}
 use lib.IntN.{ℤ, pos, sub_ℕ, ◌+ℤ◌, ◌-ℤ◌}
 use lib.Signed.{shr_z}
 use mir.Syntax.{w8}
 use mir.Val.{SFits, to_z, of_z}
 use mir.Facts.{to_z_pos, to_z-of_z}
 use Rattle.laws.specs.Digits.{carry}
-
--- the two digits of a byte
-pub low-is : (x : ℕ) → to_z w8 (bit_and x 15) ≡ pos (x % 16)
-low-is x = ap (to_z w8) (and_mask x 4) ∙ to_z_pos w8 {n = x % 16} (omega arith)
-
-pub high-is : (x : ℕ) → x < 256 → to_z w8 (x / 16) ≡ pos (x / 16 % 16)
-high-is x h = to_z_pos w8 {n = x / 16} (omega arith) ∙ ap pos (omega arith)
 
 -- the difference of two small numbers, as the machine has it
 sub_is : (v c : ℕ) → pos v -ℤ pos c ≡ sub_ℕ v c

@@ -1,7 +1,7 @@
 // The radix 2^w rows of a scalar.
 #![tactic(auto)]
 
-ghost use Rattle.std.specs.Prelude.{◌≡◌, ◌+◌, ◌≤◌, ◌<◌, take};
+ghost use Rattle.std.specs.Prelude.{◌≡◌, ◌+◌, ◌/◌, ◌%◌, ◌≤◌, ◌<◌, take, pos};
 ghost use Rattle.std.proofs.Math.IntN.{sub_ℕ};
 ghost use Rattle.rules.specs.Values.{number};
 ghost use Rattle.rules.specs.Rows.{used_places, radix_of, radix_row, radix_row_of};
@@ -21,6 +21,20 @@ pub fn to_radix_2w_size_hint(w: usize) -> usize
     }
 }
 
+// The low four bits of a byte.
+fn bot_half(x: u8) -> i8
+    ensures { result ≡ pos (x % 16) }
+{
+    (x & 15) as i8
+}
+
+// The high four bits of a byte.
+fn top_half(x: u8) -> i8
+    ensures { result ≡ pos (x / 16 % 16) }
+{
+    (x >> 4) as i8
+}
+
 // The first 32 bytes as 64 digits from 0 to 15.
 fn nibbles(scalar: &[u8]) -> [i8; 64]
     ensures { Nibbles result (number 256 (take 32 scalar.now)) }
@@ -28,8 +42,8 @@ fn nibbles(scalar: &[u8]) -> [i8; 64]
     let mut output = [0i8; 64];
     for i in 0..32 {
         let x = words::byte_at(scalar, i);
-        output[2 * i] = (x & 15) as i8;
-        output[2 * i + 1] = (x >> 4) as i8;
+        output[2 * i] = bot_half(x);
+        output[2 * i + 1] = top_half(x);
     }
     output
 }

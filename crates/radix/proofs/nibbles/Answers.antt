@@ -1,5 +1,7 @@
-use Rattle.std.proofs.Common.{◌∙◌}
-use Rattle.radix.proofs.Ints.{low-is, high-is}
+use Rattle.std.proofs.Common.{rules}
+use mathlib.Core.Path.{◌∙◌}
+use mir.Syntax.{w8}
+use mir.Facts.{to_z-of_z}
 use Rattle.radix.proofs.NibbleTurn.{halves-more, byte-is}
 use Rattle.radix.proofs.nibbles.Goals as goal
 
@@ -8,4 +10,4 @@ loop-i-preserved c =
     let i = c.loop-i-test.true in
     halves-more _ _ _ _ c.loop-i.invariant i
     (c.byte_at-x.ensures ∙ byte-is c.args.scalar.now (λ j. (c.type_inv.scalar j).fits) c.loop-i.i i)
-    _ _ (low-is _) (high-is _ c.byte_at-x.type_inv)
+    _ _ (to_z-of_z {w = w8} (search rules) ∙ c.bot_half.ensures) (to_z-of_z {w = w8} (search rules) ∙ c.top_half.ensures)
