@@ -1,3 +1,4 @@
 -- Facts that several proofs of this crate cite.
+pub mod Ints
 pub mod NibbleTurn
 pub mod RadixTurn

@@ -7,15 +7,12 @@ use native.Mathlib.Decide.{dec_lt, ℕ_discrete}
 use lib.ListN.{length, get_or, set, take, replicate, length-set, length-take, get_or-eq_default}
 use lib.Seq.{get_or-set_same, get_or-set_other, get_or-take, ext_get_or}
 use lib.Pow.{shr-shr}
-use lib.IntN.{ℤ, pos, nat_abs, sub_ℕ}
+use lib.IntN.{ℤ, pos, sub_ℕ}
 use Rattle.rules.specs.Values.{number, Below}
 use Rattle.rules.specs.Rows.{digit, above, radix_row, used_places}
 use Rattle.laws.specs.Digits.{carry, carry-bit, window-le, after}
 use Rattle.laws.specs.RadixRows.{radix-length, radix-start, radix-state, radix-window, radix-window-last}
-use mir.Syntax.{w8}
-use mir.Val.{to_z, of_z}
-use mir.Facts.{to_z-of_z}
-use Rattle.radix.specs.Nibbles.{Small, Nibbles}
+use Rattle.radix.specs.Nibbles.{Nibbles}
 use Rattle.laws.proofs.Numerals.{number_at, number-from}
 
 -- ---- a byte of the first 32, in the number that they say
@@ -107,64 +104,44 @@ centring-end N l row i h e =
         let f : j ≡ i = omega arith in
         rw f (h.here ∙ sym (radix-window-last 4 (omega arith) (omega arith) N i h.c h.bit h.state (omega arith) l))
 
--- a small digit is kept in eight bits
-kept : (z : ℤ) → Small z → to_z w8 (of_z w8 z) ≡ z
-kept z s = to_z-of_z {w = w8} (rw s.0 (record { sfits = omega (arith, s.1) }))
-
 module _ (N : ℕ) (row : List ℤ) (i : ℕ) (h : Centring N row i) (lt : i < 63) where
-  v : ℕ
+  -- the digit here, and the next one once x stands for it
+  pub v : ℕ
   v = N / 2 ^ (4 * i) % 2 ^ 4 + h.c
 
-  v-le : v ≤ 16
+  pub v-le : v ≤ 16
   unfolding v
   v-le = window-le 4 (N / 2 ^ (4 * i)) h.c h.bit
 
-  -- the digit as it is read
-  d-is : to_z w8 (of_z w8 (digit row i)) ≡ pos v
+  pub here-is : digit row i ≡ pos v
   unfolding v
-  d-is = kept (digit row i) (rw h.here (refl, v-le)) ∙ h.here
+  here-is = h.here
 
-  pub small-here : Small (to_z w8 (of_z w8 (digit row i)))
-  small-here = rw d-is (refl, v-le)
+  pub carry-le : carry 4 v ≤ 1
+  carry-le = carry-bit 4 v (omega arith) v-le
 
-  -- the next one, once x stands for it
-  module _ (x : ℤ) where
-    next-is : to_z w8 (of_z w8 (digit (set row i x) (i + 1))) ≡ pos (N / 2 ^ (4 * (i + 1)) % 2 ^ 4)
-    next-is =
-        let e : digit (set row i x) (i + 1) ≡ pos (N / 2 ^ (4 * (i + 1)) % 2 ^ 4) = get_or-set_other row i (i + 1) x (pos 0) (λ e. omega arith) ∙ h.rest (i + 1) (omega arith) (omega arith) in
-        kept (digit (set row i x) (i + 1)) (rw e (refl, omega arith)) ∙ e
+  pub next-is : (x : ℤ) → digit (set row i x) (i + 1) ≡ pos (N / 2 ^ (4 * (i + 1)) % 2 ^ 4)
+  next-is x = get_or-set_other row i (i + 1) x (pos 0) (λ e. omega arith) ∙ h.rest (i + 1) (omega arith) (omega arith)
 
-    pub small-next : Small (to_z w8 (of_z w8 (digit (set row i x) (i + 1))))
-    small-next = rw next-is (refl, omega arith)
-
-  -- the carry k out of it
-  module _ (k : ℤ) (out : k ≡ pos ((nat_abs (to_z w8 (of_z w8 (digit row i))) + 8) / 16)) where
-    out-is : k ≡ pos (carry 4 v)
-    out-is = out ∙ rw d-is
-
-    pub small-carry : Small k
-    small-carry = rw out-is (refl, omega (arith, carry-bit 4 v (omega arith) v-le))
-
-    pub centring-more : (x y : ℤ) → x ≡ sub_ℕ (nat_abs (to_z w8 (of_z w8 (digit row i)))) ((nat_abs (to_z w8 (of_z w8 (digit row i))) + 8) / 16 * 16)
-        → y ≡ pos (nat_abs (to_z w8 (of_z w8 (digit (set row i x) (i + 1)))) + nat_abs k) → Centring N (set (set row i x) (i + 1) y) (i + 1)
-    unfolding v used_places
-    centring-more x y p q =
-        record {
-          c = carry 4 v;
-          bit = carry-bit 4 v (omega arith) v-le;
-          state = radix-state 4 (omega arith) (omega arith) N i h.c h.bit h.state;
-          long = simp length-set h.long;
-          done = λ j l. get_or-set_other (set row i x) (i + 1) j y (pos 0) (λ e. omega arith) ∙ go j l (ℕ_discrete j i);
-          here = get_or-set_same (set row i x) (i + 1) y (pos 0) (simp length-set (omega (arith, h.long))) ∙ q ∙ rw (next-is x, out-is);
-          rest = λ j l m.
-              get_or-set_other (set row i x) (i + 1) j y (pos 0) (λ e. omega arith)
-              ∙ get_or-set_other row i j x (pos 0) (λ e. omega arith)
-              ∙ h.rest j (omega arith) m;
-        }
-      where
-        go : (j : ℕ) → j < i + 1 → Dec (j ≡ i) → digit (set row i x) j ≡ digit (radix_row 4 N) j
-        go j l (yes e) =
-            rw e
-            (get_or-set_same row i x (pos 0) (omega (arith, h.long))
-            ∙ p ∙ rw d-is (sym (radix-window 4 (omega arith) (omega arith) N i h.c h.bit h.state (omega arith))))
-        go j l (no n) = get_or-set_other row i j x (pos 0) n ∙ h.done j (omega arith)
+  pub centring-more : (x y : ℤ) → x ≡ sub_ℕ v (carry 4 v * 2 ^ 4) → y ≡ pos (N / 2 ^ (4 * (i + 1)) % 2 ^ 4 + carry 4 v) → Centring N (set (set row i x) (i + 1) y) (i + 1)
+  unfolding v used_places
+  centring-more x y p q =
+      record {
+        c = carry 4 v;
+        bit = carry-le;
+        state = radix-state 4 (omega arith) (omega arith) N i h.c h.bit h.state;
+        long = simp length-set h.long;
+        done = λ j l. get_or-set_other (set row i x) (i + 1) j y (pos 0) (λ e. omega arith) ∙ go j l (ℕ_discrete j i);
+        here = get_or-set_same (set row i x) (i + 1) y (pos 0) (simp length-set (omega (arith, h.long))) ∙ q;
+        rest = λ j l m.
+            get_or-set_other (set row i x) (i + 1) j y (pos 0) (λ e. omega arith)
+            ∙ get_or-set_other row i j x (pos 0) (λ e. omega arith)
+            ∙ h.rest j (omega arith) m;
+      }
+    where
+      go : (j : ℕ) → j < i + 1 → Dec (j ≡ i) → digit (set row i x) j ≡ digit (radix_row 4 N) j
+      go j l (yes e) =
+          rw e
+          (get_or-set_same row i x (pos 0) (omega (arith, h.long))
+          ∙ p ∙ sym (radix-window 4 (omega arith) (omega arith) N i h.c h.bit h.state (omega arith)))
+      go j l (no n) = get_or-set_other row i j x (pos 0) n ∙ h.done j (omega arith)

@@ -5,15 +5,19 @@ use Prim.Native.Nat.{ℕ, ◌+◌, ◌-◌, ◌*◌, ◌/◌, ◌%◌, ◌^◌, 
 use native.Mathlib.Nat.{mul_comm, mod-lt, mod-eq_of_lt}
 use native.Mathlib.Omega.{arith}
 use native.Mathlib.Decide.{dec_lt, ℕ_discrete}
-use lib.ListN.{length, set, replicate, length-set}
+use lib.ListN.{length, set, take, replicate, length-set}
 use lib.Seq.{get_or-set_same, get_or-set_other, ext_get_or}
 use lib.Pow.{pow_pos, pow_mono}
 use lib.IntN.{ℤ, pos, sub_ℕ}
 use lib.Signed.{mag}
 use borrow.Author.Tests.{le-ltb}
+use Rattle.rules.specs.Values.{number, Below, limb}
+use Rattle.rules.specs.Helpers.{five_words, waiting_bits}
 use Rattle.rules.specs.Rows.{digit, above, radix_row, used_places}
 use Rattle.laws.specs.DigitsSum.{get_or-zeros}
 use Rattle.laws.specs.Digits.{wide, carry, carry-bit, near, after}
+use Rattle.laws.proofs.Numerals.{part-lt}
+use Rattle.bits.proofs.Waiting.{power-is, scalar-bits}
 use Rattle.laws.specs.RadixRows.{Place, place, radix-length, radix-rest, radix-byte, radix-start, radix-state, radix-window, radix-window-last}
 
 -- what is done below place i of N, with the carry c into it
@@ -113,3 +117,61 @@ module _ (w N : ℕ) (s : Scope w N) where
           go : (j : ℕ) → Dec (j < i + 1) → digit (set row i x) j ≡ digit (radix_row w N) j
           go j (yes l) = done-with x here (omega (arith, places.inside)) j l
           go j (no l) = get_or-set_other row i j x (pos 0) (λ q. omega arith) ∙ h.rest j (omega arith) ∙ sym (radix-rest w lo hi N j (omega arith))
+
+-- ---- the turns of a scalar s with the words x, at a width w with the power F, up to its last place
+
+pub record Known (s x : List ℕ) (w F last : ℕ) : Type 0 where
+  pub low : 5 ≤ w
+  pub high : w ≤ 8
+  pub bytes : Below 256 s
+  pub words : x ≡ five_words s
+  pub power : F ≡ 2 ^ w % limb
+  pub places-are : last + 1 ≡ used_places w
+
+-- what is known once u has been found to be the places that are used
+pub known : (s x : List ℕ) (w F u : ℕ) → (5 ≤ w) × (w ≤ 8) → Below 256 s → x ≡ five_words s → F ≡ 2 ^ w % limb → u ≡ used_places w → Known s x w F (u - 1)
+known s x w F u r b e p n =
+    let some : 0 < used_places w = (place w (omega (arith, r.0)) r.1).some in
+    record { low = r.0; high = r.1; bytes = b; words = e; power = p; places-are = omega arith }
+
+module _ (s x : List ℕ) (w F last : ℕ) (k : Known s x w F last) where
+  scope : Scope w (number 256 (take 32 s))
+  scope = record { low = k.low; high = k.high; room = part-lt 8 s k.bytes 32 0 }
+
+  count : Place w
+  count = place w (omega (arith, k.low)) k.high
+
+  full : F ≡ 2 ^ w
+  full = power-is F w k.high k.power
+
+  pub nothing-done : Part w (number 256 (take 32 s)) (replicate 64 (pos 0)) 0 0
+  nothing-done = part_none w (number 256 (take 32 s)) scope
+
+  module _ (i : ℕ) (l : i ≤ last) where
+    -- a turn's place starts inside, and has room
+    pub starts : i * w ≤ 256
+    starts = count.starts i (omega (arith, k.places-are))
+
+    pub inside : i < 64
+    inside = omega (arith, count.inside, k.places-are)
+
+    -- with the bits b that wait there
+    module _ (row : List ℤ) (c b : ℕ) (h : Part w (number 256 (take 32 s)) row c i) (e : b ≡ waiting_bits x (i * w) w) where
+      window : c + b ≡ c + number 256 (take 32 s) / 2 ^ (i * w) % 2 ^ w
+      window = ap (λ (y : ℕ). c + y) (e ∙ scalar-bits x (i * w) w starts k.high s k.bytes k.words)
+
+      pub turn-small : (c + b ≤ 256) × (F ≤ 256)
+      turn-small = coef-le w (number 256 (take 32 s)) scope row c i (c + b) F h window full
+
+      pub turn-asks : (c + b < 512) × (((c + b + F / 2) / 2 ^ w * 2 ^ w % 2 ^ 64 ≤ c + b + 128) × (c + b < (c + b + F / 2) / 2 ^ w * 2 ^ w % 2 ^ 64 + 128))
+      turn-asks = digit-asks w (number 256 (take 32 s)) scope row c i (c + b) F h window full
+
+      pub turned : i < last → (z : ℤ) → z ≡ sub_ℕ (c + b) ((c + b + F / 2) / 2 ^ w * 2 ^ w % 2 ^ 64)
+          → Part w (number 256 (take 32 s)) (set row i z) ((c + b + F / 2) / 2 ^ w) (i + 1)
+      turned m = part-more w (number 256 (take 32 s)) scope row c i (c + b) F h window full (omega (arith, k.places-are))
+
+      pub end-asks : i ≡ last → (c + b < 512) × ((0 ≤ c + b + 128) × (c + b < 0 + 128))
+      end-asks q = last-asks w (number 256 (take 32 s)) scope row c i (c + b) F h window full (omega (arith, k.places-are))
+
+      pub ended : i ≡ last → (z : ℤ) → z ≡ sub_ℕ (c + b) 0 → set row i z ≡ radix_row w (number 256 (take 32 s))
+      ended q = part_end w (number 256 (take 32 s)) scope row c i (c + b) F h window full (omega (arith, k.places-are))

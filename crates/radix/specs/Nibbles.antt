@@ -1,10 +1,6 @@
 -- Digits before they are recentred.
-use Rattle.std.specs.Prelude.{◌≡◌, List, ℕ, ◌*◌, ◌/◌, ◌%◌, ◌^◌, ◌≤◌, ◌<◌, length, ℤ, pos, nat_abs}
+use Rattle.std.specs.Prelude.{◌≡◌, List, ℕ, ◌*◌, ◌/◌, ◌%◌, ◌^◌, ◌<◌, length, ℤ, pos}
 use Rattle.rules.specs.Rows.{digit}
-
--- a digit from 0 to 16
-abbrev pub Small : ℤ → Type 0
-Small d = (d ≡ pos (nat_abs d)) × (nat_abs d ≤ 16)
 
 -- 64 digits, each four bits of n
 pub record Nibbles (row : List ℤ) (n : ℕ) : Type 0 where

@@ -1,12 +1,12 @@
 // The radix 2^w rows of a scalar.
 #![tactic(auto)]
 
-ghost use Rattle.std.specs.Prelude.{◌≡◌, ◌+◌, ◌*◌, ◌/◌, ◌%◌, ◌≤◌, ◌<◌, take, pos, nat_abs};
+ghost use Rattle.std.specs.Prelude.{◌≡◌, ◌+◌, ◌/◌, ◌%◌, ◌≤◌, ◌<◌, take, pos};
 ghost use Rattle.std.proofs.Math.IntN.{sub_ℕ};
 ghost use Rattle.rules.specs.Values.{number};
 ghost use Rattle.rules.specs.Results.{as_row};
 ghost use Rattle.rules.specs.Rows.{used_places, radix_of, radix_row, radix_row_of};
-ghost use Rattle.radix.specs.Nibbles.{Small, Nibbles};
+ghost use Rattle.radix.specs.Nibbles.{Nibbles};
 
 use rules::Refusal;
 
@@ -33,7 +33,7 @@ fn bot_half(x: u8) -> i8
 fn top_half(x: u8) -> i8
     ensures { result ≡ pos (x / 16 % 16) }
 {
-    ((x >> 4) & 15) as i8
+    (x >> 4) as i8
 }
 
 // The first 32 bytes as 64 digits from 0 to 15.
@@ -49,41 +49,15 @@ fn nibbles(scalar: &[u8]) -> [i8; 64]
     output
 }
 
-// The carry out of a digit, an i8.
-fn carry_of(d: i8) -> i8
-    requires { Small d }
-    ensures { result ≡ pos ((nat_abs d + 8) / 16) }
-{
-    (d + 8) >> 4
-}
-
-// A digit less its carry.
-fn recentred(d: i8, carry: i8) -> i8
-    requires { Small d × (carry ≡ pos ((nat_abs d + 8) / 16)) }
-    ensures { result ≡ sub_ℕ (nat_abs d) ((nat_abs d + 8) / 16 * 16) }
-{
-    d - (carry << 4)
-}
-
-// A digit and the carry into it.
-fn carried(d: i8, carry: i8) -> i8
-    requires { Small d × Small carry }
-    ensures { result ≡ pos (nat_abs d + nat_abs carry) }
-{
-    d + carry
-}
-
 // The radix-16 row: the last digit takes its carry and is not recentred.
 fn radix_16(scalar: &[u8]) -> [i8; 64]
     ensures { result ≡ radix_row 4 (number 256 (take 32 scalar.now)) }
 {
     let mut output = nibbles(scalar);
     for i in 0..63 {
-        let d = output[i];
-        let carry = carry_of(d);
-        output[i] = recentred(d, carry);
-        let e = output[i + 1];
-        output[i + 1] = carried(e, carry);
+        let carry = (output[i] + 8) >> 4;
+        output[i] -= carry << 4;
+        output[i + 1] += carry;
     }
     output
 }

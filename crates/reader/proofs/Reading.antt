@@ -7,22 +7,19 @@ use native.Mathlib.Nat.{mod-eq_of_lt, mod-add-mod, add-mul-mod_self_left, mod-lt
 use native.Mathlib.Omega.{arith}
 use lib.Dec.{eqb, ltb, leb, lit<}
 use lib.ListN.{length}
-use lib.IntN.{ℤ, pos, negsuc, nat_abs, ℤ_discrete}
-use mir.Syntax.{w8}
-use mir.Val.{SFits, to_z, of_z}
-use mir.Facts.{to_z-of_z}
-use borrow.Author.Tests.{eq-eqb, ne_eqb, lt-ltb, ltb-true, leb-true, leb-false}
+use lib.IntN.{ℤ, pos, negsuc, nat_abs}
+use borrow.Author.Tests.{lt-ltb, ltb-true, leb-true, leb-false}
 use Rattle.std.specs.Ordering.{int_eq}
 use Rattle.std.specs.Cmp.Rules.{signed_items}
 use Rattle.std.proofs.lemmas.Bool.Decides.{same_from_decides}
 use lib.Pointwise.{pointwise}
 use Rattle.rules.specs.Values.{number, places}
-use Rattle.rules.specs.Numbers.{row_bound, any_below, first, given, bytes_answer}
-use Rattle.rules.specs.Rows.{digit, row_sum, rowless, recode_refusal, same_digit, same_row, no_scalar}
-use Rattle.laws.specs.Conditions.{any_at, any-end, given-done}
+use Rattle.rules.specs.Numbers.{row_bound, first, given, bytes_answer}
+use Rattle.rules.specs.Rows.{digit, row_sum, rowless, recode_refusal, same_row, no_scalar}
+use Rattle.laws.specs.Conditions.{given-done}
 use Rattle.laws.specs.DigitsSum.{minus, weigh, balance}
 use Rattle.laws.proofs.Numerals.{places-length}
-use Rattle.laws.specs.RowsRead.{same-digit, same_row_lem, same-row-search}
+use Rattle.laws.specs.RowsRead.{same_row_lem}
 use Rattle.bits.proofs.Refusals.{is-long}
 use Rattle.reader.specs.Readers.{shape_refusal, compared_rows}
 use Rattle.reader.specs.Sums.{SaysBytes}

@@ -14,7 +14,7 @@ use digit::magnitude;
 use rules::{Element, Refusal};
 
 // A number of one limb.
-fn limbs_of(n: u64) -> Element
+fn one_limb(n: u64) -> Element
     ensures { result ≡ record { l0 = n; l1 = 0; l2 = 0; l3 = 0 } }
 {
     Element {
@@ -41,7 +41,7 @@ fn doubled(q: Element, w: usize) -> Element
 fn with_digit(q: Element, d: i8) -> Element
     ensures { result ≡ element_of (value_of q + 2 ^ 256 + plus d - minus d) }
 {
-    let x = limbs_of(magnitude(d) as u64);
+    let x = one_limb(magnitude(d) as u64);
     if d < 0 {
         limbs::difference(q, x).element
     } else {
@@ -53,7 +53,7 @@ fn with_digit(q: Element, d: i8) -> Element
 fn row_sum(row: &[i8], w: usize) -> Element
     ensures { Says w row.now result }
 {
-    let mut q = limbs_of(0);
+    let mut q = one_limb(0);
     for i in (0..row.len()).rev() {
         q = with_digit(doubled(q, w), row[i]);
     }
@@ -102,6 +102,7 @@ fn compared<const N: usize>(
 }
 
 // The scalar below 2^255 that has a NAF row of width w.
+// A function for both readers would be handed the recoding and its law, and be no plainer than the two.
 pub fn read_naf(row: &[i8], w: usize) -> Result<[u8; 32], Refusal>
     ensures { as_scalar_bytes result ≡ read_naf row.now w }
 {

@@ -1,8 +1,8 @@
--- Eight bits of the machine read as signed: what its casts and its wrapping difference are as numbers.
-use Rattle.std.proofs.Common.{◌≡◌, ℕ, suc, ◌+◌, ◌-◌, ◌*◌, ◌%◌, ◌^◌, ◌<◌, ◌≤◌, pos, negsuc, ◌-ℤ◌, sym, refl, ap, ◌∙◌, arith, to_z-of_z, w8, w16, SFits, to_z, of_z, le-ltb, lt-ltb}
+-- Eight bits of the machine read as signed: what its wrapping difference is as a number.
+use Rattle.std.proofs.Common.{◌≡◌, ℕ, suc, ◌+◌, ◌-◌, ◌*◌, ◌%◌, ◌^◌, ◌<◌, ◌≤◌, pos, negsuc, sym, refl, ap, ◌∙◌, arith, w8, to_z, le-ltb, lt-ltb}
 use native.Mathlib.Decide.{dec_lt}
 use lib.IntN.{sub_ℕ}
-use mir.Facts.{to_z_pos, to_z-neg, sfits_widen}
+use mir.Facts.{to_z_pos, to_z-neg}
 use Rattle.laws.specs.Digits.{carry, near}
 use Rattle.scalar.specs.Wrap.{wrapped}
 

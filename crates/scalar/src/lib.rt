@@ -19,6 +19,7 @@ fn wrapping_digit(window: u64, width: u64) -> i8
 }
 
 // The digits of the non-adjacent form of width w.
+// The loop counts by hand, since it goes on by one place after a digit 0 and by w places after another.
 fn naf_digits(scalar: &[u8], w: usize) -> [i8; 256]
     requires { (2 ≤ w) × (w ≤ 8) }
     ensures { result ≡ naf_row w (number 256 (take 32 scalar.now)) }

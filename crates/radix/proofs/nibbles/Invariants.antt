@@ -1,5 +1,4 @@
 -- Two digits a byte. The loop's invariant: the digits of the first i bytes are there.
-use Prim.Native.Nat.{◌-◌}
 use lib.ListN.{take}
 use Rattle.rules.specs.Values.{number}
 use Rattle.radix.proofs.NibbleTurn.{Halves}
@@ -7,6 +6,3 @@ use Rattle.radix.proofs.nibbles.Given as goal
 
 abbrev pub invariant-loop-i : goal.invariant-loop-i
 invariant-loop-i l = Halves l.output (number 256 (take 32 l.scalar)) l.i
-
-abbrev pub decreases-loop-i : goal.decreases-loop-i
-decreases-loop-i l = 32 - l.i

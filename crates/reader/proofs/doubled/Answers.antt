@@ -1,12 +1,8 @@
 use mathlib.Core.Path.{◌∙◌, ap}
-use native.Mathlib.Omega.{arith}
 use Rattle.rules.specs.declared.Carried.{Carried}
 use Rattle.rules.specs.Limbs.{carried_sum}
 use Rattle.reader.proofs.Modulo.{double-more}
 use Rattle.reader.proofs.doubled.Goals as goal
 
 pub loop-preserved : goal.loop-preserved
-loop-preserved c = (
-  omega (arith, c.loop-test.true),
-  ap (λ (x : Carried). x.element) c.sum.ensures ∙ unfold carried_sum in double-more _ _ _ c.loop.invariant.1,
-)
+loop-preserved c = ap (λ (x : Carried). x.element) c.sum.ensures ∙ unfold carried_sum in double-more _ _ _ c.loop.invariant
