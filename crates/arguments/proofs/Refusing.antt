@@ -7,9 +7,9 @@ use native.Mathlib.Omega.{arith}
 use lib.IntN.{ℤ, pos}
 use borrow.Author.Tests.{ne_eqb}
 use Rattle.rules.specs.Values.{places}
-use Rattle.rules.specs.Numbers.{first, condition, given, valued, counted, summed, naf_answer, radix_answer, bytes_answer, window8_answer, window64_answer, room_after}
+use Rattle.rules.specs.Numbers.{first, condition, given, valued, counted, summed, naf_answer, radix_answer, bytes_answer, window_answer, room_after}
 use Rattle.rules.specs.Batch.{Memory}
-use Rattle.rules.specs.Claims.{Kind, a_value, a_count, a_sum, a_naf_row, a_radix_row, a_scalar, a_window8, a_window64, with_room, with_tables, with_memory, Refuses}
+use Rattle.rules.specs.Claims.{Kind, a_value, a_count, a_sum, a_naf_row, a_radix_row, a_scalar, a_window, with_room, with_tables, with_memory, Refuses}
 use Rattle.laws.specs.Answers.{Rising, first-answers, first_done}
 use Rattle.laws.specs.Conditions.{given-refused}
 
@@ -45,13 +45,9 @@ module _ (c : List (Bool × ℕ)) (rise : Rising 0 c) where
   unfolding bytes_answer given places
   scalar-refuses s = refuses a_scalar _ refl (λ h. rw (ne_eqb (first c) 0 h))
 
-  pub window8-refuses : (w : List ℕ) → Refuses a_window8 c (window8_answer (first c) w)
-  unfolding window8_answer given
-  window8-refuses w = refuses a_window8 _ refl (λ h. rw (ne_eqb (first c) 0 h))
-
-  pub window64-refuses : (w : List ℕ) → Refuses a_window64 c (window64_answer (first c) w)
-  unfolding window64_answer given
-  window64-refuses w = refuses a_window64 _ refl (λ h. rw (ne_eqb (first c) 0 h))
+  pub window-refuses : (k : ℕ) (w : List ℕ) → Refuses (a_window k) c (window_answer k (first c) w)
+  unfolding window_answer given
+  window-refuses k w = refuses (a_window k) _ refl (λ h. rw (ne_eqb (first c) 0 h))
 
   -- working room is as it was
   pub room-refuses : (v a d m m' : ℕ) (ds : List ℤ) (ls : List ℕ)

@@ -11,7 +11,7 @@ use Rattle.rules.specs.declared.Element.{Element}
 use Rattle.rules.specs.Values.{value_of, point_at}
 use Rattle.rules.specs.Group.{L, elements, residues, times_z}
 use Rattle.rules.specs.Loops.{odd_entry}
-use Rattle.rules.specs.Numbers.{given, valued, window8_answer, window64_answer}
+use Rattle.rules.specs.Numbers.{given, valued, window_answer}
 use Rattle.rules.specs.Windows.{successive, odd, selected, limbs_flat, over, any_over, point_refusal, lookup_table, naf_lookup_table5, naf_lookup_table8, beyond, lookup_refusal, select, select_naf}
 use Rattle.rules.specs.Helpers.{elements_flat, looked_up}
 use Rattle.laws.specs.Conditions.{or-none, any-absent}
@@ -56,17 +56,17 @@ module _ (p : List ℕ) (l : length p ≡ 4) (h : point_at p 0 < L) (d : ℤ) wh
 
   -- 1P to 8P, d from -8 to 8
   pub lookup-table-read : nat_abs d ≤ 8 → select (lookup_table p).limbs d ≡ valued 0 (times_z residues d (point_at p 0))
-  unfolding lookup_table window8_answer given select
+  unfolding lookup_table window_answer given select
   lookup-table-read g = let r = successive-read 8 (point_at p 0) h d g in rw passes (ap₂ valued r.0 r.1)
 
   -- 1P, 3P, .. 15P, d odd from -15 to 15
   pub naf-lookup-table5-read : nat_abs d % 2 ≡ 1 → nat_abs d ≤ 15 → select_naf 8 (naf_lookup_table5 p).limbs d ≡ valued 0 (times_z residues d (point_at p 0))
-  unfolding naf_lookup_table5 window8_answer given
+  unfolding naf_lookup_table5 window_answer given
   naf-lookup-table5-read o g = rw passes (odd-read 8 (point_at p 0) h d o g)
 
   -- 1P, 3P, .. 127P, d odd from -127 to 127
   pub naf-lookup-table8-read : nat_abs d % 2 ≡ 1 → nat_abs d ≤ 127 → select_naf 64 (naf_lookup_table8 p).limbs d ≡ valued 0 (times_z residues d (point_at p 0))
-  unfolding naf_lookup_table8 window64_answer given
+  unfolding naf_lookup_table8 window_answer given
   naf-lookup-table8-read o g = rw passes (odd-read 64 (point_at p 0) h d o g)
 
 -- radix lookup among n elements as flat limbs

@@ -6,8 +6,7 @@ use Rattle.rules.specs.declared.Sum.{Sum}
 use Rattle.rules.specs.declared.NafRow.{NafRow}
 use Rattle.rules.specs.declared.RadixRow.{RadixRow}
 use Rattle.rules.specs.declared.ScalarBytes.{ScalarBytes}
-use Rattle.rules.specs.declared.Window8.{Window8}
-use Rattle.rules.specs.declared.Window64.{Window64}
+use Rattle.rules.specs.declared.FlatWindow.{FlatWindow}
 use Rattle.rules.specs.Values.{limb, places}
 use Rattle.rules.specs.Group.{L}
 use Rattle.rules.specs.Numbers.{condition, counted}
@@ -40,11 +39,14 @@ a_radix_row = record { number = λ r. r.number; zeros = λ n. record { number = 
 abbrev pub a_scalar : Kind ScalarBytes
 a_scalar = record { number = λ r. r.number; zeros = λ n. record { number = n; bytes = replicate 32 0 } }
 
-abbrev pub a_window8 : Kind Window8
-a_window8 = record { number = λ r. r.number; zeros = λ n. record { number = n; limbs = replicate 32 0 } }
+abbrev pub a_window : (k : ℕ) → Kind (FlatWindow k)
+a_window k = record { number = λ r. r.number; zeros = λ n. record { number = n; limbs = replicate k 0 } }
 
-abbrev pub a_window64 : Kind Window64
-a_window64 = record { number = λ r. r.number; zeros = λ n. record { number = n; limbs = replicate 256 0 } }
+abbrev pub a_window8 : Kind (FlatWindow 32)
+a_window8 = a_window 32
+
+abbrev pub a_window64 : Kind (FlatWindow 256)
+a_window64 = a_window 256
 
 -- beside it working room, tables or memory as they were
 abbrev pub with_room : List ℤ → List ℕ → Kind After

@@ -5,11 +5,10 @@ use Prim.Native.Nat.{ℕ, ◌*◌, ◌<◌}
 use lib.ListN.{length, get_or, replicate}
 use borrow.Author.Tests.{ne_eqb}
 use Rattle.rules.specs.declared.Element.{Element}
-use Rattle.rules.specs.declared.Window8.{Window8}
-use Rattle.rules.specs.declared.Window64.{Window64}
+use Rattle.rules.specs.declared.FlatWindow.{FlatWindow}
 use Rattle.rules.specs.Values.{limb, element_at, point_at}
 use Rattle.rules.specs.Group.{elements, residues}
-use Rattle.rules.specs.Numbers.{given, window8_answer, window64_answer}
+use Rattle.rules.specs.Numbers.{given, window_answer}
 use Rattle.rules.specs.Windows.{successive, odd, limbs_flat, point_refusal}
 use Rattle.rules.specs.Helpers.{elements_flat, made_successive, made_odd, made_odd_in}
 use Rattle.residue.proofs.Members.{Member}
@@ -39,19 +38,11 @@ module _ (p : List ℕ) (limbs : (i : ℕ) → get_or p i 0 < limb) (e : point_r
         ∙ odd-limbs (element_at p 0) (read-ranged p limbs 0) member n
 
 -- an answer by the test of its number
-module _ {k m : ℕ} (f : k ≡ m) (w : List ℕ) {l : List ℕ} where
-  pub done8 : k ≡ 0 → l ≡ w → ◌≡◌ {A = Window8} (record { number = k; limbs = l }) (window8_answer m w)
-  unfolding window8_answer given
-  done8 z e = rw (sym f, z, e)
+module _ (n : ℕ) {k m : ℕ} (f : k ≡ m) (w : List ℕ) {l : List ℕ} where
+  pub done : k ≡ 0 → l ≡ w → ◌≡◌ {A = FlatWindow n} (record { number = k; limbs = l }) (window_answer n m w)
+  unfolding window_answer given
+  done z e = rw (sym f, z, e)
 
-  pub refused8 : (k ≡ 0 → ⊥) → l ≡ replicate 32 0 → ◌≡◌ {A = Window8} (record { number = k; limbs = l }) (window8_answer m w)
-  unfolding window8_answer given
-  refused8 z e = rw (sym f, ne_eqb k 0 z, e)
-
-  pub done64 : k ≡ 0 → l ≡ w → ◌≡◌ {A = Window64} (record { number = k; limbs = l }) (window64_answer m w)
-  unfolding window64_answer given
-  done64 z e = rw (sym f, z, e)
-
-  pub refused64 : (k ≡ 0 → ⊥) → l ≡ replicate 256 0 → ◌≡◌ {A = Window64} (record { number = k; limbs = l }) (window64_answer m w)
-  unfolding window64_answer given
-  refused64 z e = rw (sym f, ne_eqb k 0 z, e)
+  pub refused : (k ≡ 0 → ⊥) → l ≡ replicate n 0 → ◌≡◌ {A = FlatWindow n} (record { number = k; limbs = l }) (window_answer n m w)
+  unfolding window_answer given
+  refused z e = rw (sym f, ne_eqb k 0 z, e)

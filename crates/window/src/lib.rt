@@ -1,13 +1,15 @@
 // Windows of a point.
 #![tactic(auto)]
 
-ghost use Rattle.std.specs.Prelude.{◌≡◌, ◌-◌, ◌≤◌};
-ghost use Rattle.rules.specs.Group.{elements};
-ghost use Rattle.rules.specs.Windows.{stepped, lookup_table, naf_lookup_table5, naf_lookup_table8};
+ghost use Rattle.std.specs.Prelude.{◌≡◌, ◌-◌, ◌*◌, ◌≤◌};
+ghost use Rattle.rules.specs.Values.{point_at};
+ghost use Rattle.rules.specs.Group.{elements, residues};
+ghost use Rattle.rules.specs.Numbers.{window_answer};
+ghost use Rattle.rules.specs.Windows.{stepped, odd, limbs_flat, point_refusal, lookup_table, naf_lookup_table5, naf_lookup_table8};
 ghost use Rattle.rules.specs.Lists.{put, joined};
 ghost use Rattle.rules.specs.Helpers.{elements_flat, made, made_successive, made_odd};
 
-use rules::{Counts, Element, Window8, Window64};
+use rules::{Counts, Element, FlatWindow, Window8, Window64};
 
 // N entries from p on, each from the one before by adding s.
 fn stepped<const N: usize>(p: Element, s: Element, additions: &mut u64) -> [[u64; 4]; N]
@@ -86,26 +88,32 @@ pub fn lookup_table(point: &[u64]) -> Window8
     Window8 { number, limbs }
 }
 
+// The NAF window of N entries of a lent point, in M limbs.
+fn naf_lookup_table<const N: usize, const M: usize>(point: &[u64]) -> FlatWindow<M>
+    requires size { (1 ≤ N) × (N ≤ 64) }
+    requires limbs { M ≡ 4 * N }
+    ensures { result ≡ window_answer M (point_refusal point.now) (limbs_flat (odd residues (point_at point.now 0)) N) }
+{
+    let mut limbs = [0u64; M];
+    let number = group::point_refusal(point);
+    if number == 0 {
+        make_odd::<N>(flat::element_at(point, 0), &mut limbs);
+    }
+    FlatWindow { number, limbs }
+}
+
 // The NAF window of width 5 of a lent point.
+#[tactic(auto, unfolding(rules::specs::Windows::naf_lookup_table5))]
 pub fn naf_lookup_table5(point: &[u64]) -> Window8
     ensures { result ≡ naf_lookup_table5 point.now }
 {
-    let mut limbs = [0u64; 32];
-    let number = group::point_refusal(point);
-    if number == 0 {
-        make_odd8(flat::element_at(point, 0), &mut limbs);
-    }
-    Window8 { number, limbs }
+    naf_lookup_table::<8, 32>(point)
 }
 
 // The NAF window of width 8 of a lent point.
+#[tactic(auto, unfolding(rules::specs::Windows::naf_lookup_table8))]
 pub fn naf_lookup_table8(point: &[u64]) -> Window64
     ensures { result ≡ naf_lookup_table8 point.now }
 {
-    let mut limbs = [0u64; 256];
-    let number = group::point_refusal(point);
-    if number == 0 {
-        make_odd64(flat::element_at(point, 0), &mut limbs);
-    }
-    Window64 { number, limbs }
+    naf_lookup_table::<64, 256>(point)
 }
