@@ -1,11 +1,15 @@
 -- What each contract says, and so one result: digits, limbs, elements of flat limbs, words, bits, answers, residues, the calls of the group, lent lists, what is asked of them, and room.
-use Rattle.std.specs.Prelude.{◌%◌, ◌*◌, ◌/◌, ◌^◌, min, leb, nat_abs, pos, get_or, take}
+use Rattle.std.specs.Prelude.{◌%◌, ◌*◌, ◌/◌, ◌^◌, min, leb, nat_abs, get_or, take}
+use denote.RattleType.{RattleType}
+use denote.Param.Laws.{Laws, IsCopy}
+use mir.Syntax.{Dict}
+use Rattle.std.specs.declared.clone.Clone.{Ghosts}
 use Rattle.rules.specs.Asks.{enough_room, flagged_contents, flagged_lists, plain_contents, plain_lists}
 use Rattle.rules.specs.Calls.{group_add, group_double, group_negate, group_subtract}
 use Rattle.rules.specs.Group.{L, added, added_modulo, elements, negated, subtracted, subtracted_modulo}
 use Rattle.rules.specs.Helpers.{counted_done, five_words, sum_done, value_done, waiting_bits}
 use Rattle.rules.specs.Limbs.{carried_difference, carried_sum}
-use Rattle.rules.specs.Lists.{any_big, beyond_most, not_in, pairs}
+use Rattle.rules.specs.Lists.{any_big, beyond_most, not_in, pairs, put}
 use Rattle.rules.specs.Loops.{doubled, odd_entry}
 use Rattle.rules.specs.Numbers.{cleared, counted, first, summed, valued}
 use Rattle.rules.specs.Parts.{first_units}
@@ -166,21 +170,19 @@ one-asks-plain-contents = says
 pub one-asks-contents : Says Rattle.asks.proofs.contents.Reads.Post (λ κ (scalars, (points, (flags, (n, _)))). first (flagged_contents scalars.now points.now flags.now n)) (λ κ r _. r)
 one-asks-contents = says
 
--- room
-pub one-room-clear-digits : Says Rattle.room.proofs.clear_digits.Reads.Post (λ κ (digits, (n, _)). cleared (pos 0) n digits.now) (λ κ _ (digits, _). digits.now)
-one-room-clear-digits = says
+-- room, at any type of the places: digits, limbs, bytes, and others
+pub one-room-clear : (T : RattleType) (L : Laws T) (C : IsCopy T) (G : Ghosts T.Denot) (D : Dict)
+    → Says (Rattle.room.proofs.clear.Reads.Post T L C G D) (λ κ (list, (zero, (n, _))). cleared zero n list.now) (λ κ _ (list, _). list.now)
+one-room-clear T L C G D = says
 
-pub one-room-clear-limbs : Says Rattle.room.proofs.clear_limbs.Reads.Post (λ κ (limbs, (n, _)). cleared 0 n limbs.now) (λ κ _ (limbs, _). limbs.now)
-one-room-clear-limbs = says
+pub one-room-put : (T : RattleType) (L : Laws T) (C : IsCopy T) (G : Ghosts T.Denot) (D : Dict)
+    → Says (Rattle.room.proofs.put.Reads.Post T L C G D) (λ κ (part, (list, _)). put list.now part.now) (λ κ _ (part, _). part.now)
+one-room-put T L C G D = says
 
-pub one-room-bytes : Says Rattle.room.proofs.parts.bytes.Reads.Post (λ κ (scalars, (unit, (n, _))). first_units unit n scalars.now) (λ κ r _. r.now)
-one-room-bytes = says
+pub one-room-first-units : (T : RattleType) (L : Laws T)
+    → Says (Rattle.room.proofs.parts.first_units.Reads.Post T L) (λ κ (list, (unit, (n, _))). first_units unit n list.now) (λ κ r _. r.now)
+one-room-first-units T L = says
 
-pub one-room-limbs : Says Rattle.room.proofs.parts.limbs.Reads.Post (λ κ (points, (unit, (n, _))). first_units unit n points.now) (λ κ r _. r.now)
-one-room-limbs = says
-
-pub one-room-digit-room : Says Rattle.room.proofs.parts.digit_room.Reads.Post (λ κ (digits, (unit, (n, _))). first_units unit n digits.now) (λ κ r _. r.now)
-one-room-digit-room = says
-
-pub one-room-limb-room : Says Rattle.room.proofs.parts.limb_room.Reads.Post (λ κ (windows, (unit, (n, _))). first_units unit n windows.now) (λ κ r _. r.now)
-one-room-limb-room = says
+pub one-room-first-units-mut : (T : RattleType) (L : Laws T)
+    → Says (Rattle.room.proofs.parts.first_units_mut.Reads.Post T L) (λ κ (room, (unit, (n, _))). first_units unit n room.now) (λ κ r _. r.now)
+one-room-first-units-mut T L = says

@@ -1,10 +1,7 @@
 pub mod Room
 pub mod Laid
 pub mod Puts
-pub mod Joined
-pub mod Copies
 pub mod Laying
-pub mod Stepping
 pub mod Steps
 pub mod BucketLoops
 pub mod Numerals

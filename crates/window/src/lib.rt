@@ -1,9 +1,11 @@
 // Windows of a point.
 #![tactic(auto)]
 
-ghost use Rattle.std.specs.Prelude.{◌≡◌, ◌-◌, ◌≤◌};
-ghost use Rattle.rules.specs.Group.{elements};
-ghost use Rattle.rules.specs.Windows.{stepped, lookup_table, naf_lookup_table5, naf_lookup_table8};
+ghost use Rattle.std.specs.Prelude.{◌≡◌, ◌-◌, ◌*◌, ◌≤◌};
+ghost use Rattle.rules.specs.Values.{point_at};
+ghost use Rattle.rules.specs.Numbers.{window_answer};
+ghost use Rattle.rules.specs.Group.{elements, residues};
+ghost use Rattle.rules.specs.Windows.{stepped, odd, limbs_flat, point_refusal, lookup_table, naf_lookup_table5, naf_lookup_table8};
 ghost use Rattle.rules.specs.Results.{as_window};
 ghost use Rattle.rules.specs.Lists.{put, joined};
 ghost use Rattle.rules.specs.Helpers.{elements_flat, made, made_successive, made_odd};
@@ -85,22 +87,30 @@ pub fn lookup_table(point: &[u64]) -> Result<[u64; 32], Refusal>
     Ok(limbs)
 }
 
-// The NAF window of width 5 of a lent point.
-pub fn naf_lookup_table5(point: &[u64]) -> Result<[u64; 32], Refusal>
-    ensures { as_window 8 result ≡ naf_lookup_table5 point.now }
+// The NAF window of N entries of a lent point, in M limbs.
+fn naf_lookup_table<const N: usize, const M: usize>(point: &[u64]) -> Result<[u64; M], Refusal>
+    requires size { (1 ≤ N) × (N ≤ 64) }
+    requires limbs { M ≡ 4 * N }
+    ensures { as_window N result ≡ window_answer N (point_refusal point.now) (limbs_flat (odd residues (point_at point.now 0)) N) }
 {
     group::point_refusal(point)?;
-    let mut limbs = [0u64; 32];
-    make_odd8(flat::element_at(point, 0), &mut limbs);
+    let mut limbs = [0u64; M];
+    make_odd::<N>(flat::element_at(point, 0), &mut limbs);
     Ok(limbs)
 }
 
+// The NAF window of width 5 of a lent point.
+#[tactic(auto, unfolding(rules::specs::Windows::naf_lookup_table5))]
+pub fn naf_lookup_table5(point: &[u64]) -> Result<[u64; 32], Refusal>
+    ensures { as_window 8 result ≡ naf_lookup_table5 point.now }
+{
+    naf_lookup_table::<8, 32>(point)
+}
+
 // The NAF window of width 8 of a lent point.
+#[tactic(auto, unfolding(rules::specs::Windows::naf_lookup_table8))]
 pub fn naf_lookup_table8(point: &[u64]) -> Result<[u64; 256], Refusal>
     ensures { as_window 64 result ≡ naf_lookup_table8 point.now }
 {
-    group::point_refusal(point)?;
-    let mut limbs = [0u64; 256];
-    make_odd64(flat::element_at(point, 0), &mut limbs);
-    Ok(limbs)
+    naf_lookup_table::<64, 256>(point)
 }
