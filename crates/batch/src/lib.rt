@@ -39,6 +39,7 @@ pub fn prepare(
 }
 
 // One slot set to a scalar and a point: its row and its window are written, nothing else is read or touched.
+// Digits and windows go on as two slices: a struct of both would be made in each public call, to be taken apart here.
 fn set_point(
     digits: &mut [i8],
     windows: &mut [u64],
