@@ -1,4 +1,5 @@
 pub mod Contracts
+pub mod Told
 pub mod Refusing
 pub mod Recoded
 pub mod Answering

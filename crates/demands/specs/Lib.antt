@@ -5,6 +5,7 @@ pub mod Rows
 pub mod Sums
 pub mod Widths
 pub mod Sheet
+pub mod Answers
 pub mod OneGroup
 pub mod OneRows
 pub mod OneEngines

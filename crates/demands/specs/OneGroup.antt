@@ -11,13 +11,18 @@ use Rattle.rules.specs.Helpers.{counted_done, five_words, sum_done, value_done, 
 use Rattle.rules.specs.Limbs.{carried_difference, carried_sum}
 use Rattle.rules.specs.Lists.{any_big, beyond_most, not_in, pairs, put}
 use Rattle.rules.specs.Loops.{doubled, odd_entry}
-use Rattle.rules.specs.Numbers.{cleared, counted, first, summed, valued}
+use Rattle.rules.specs.Numbers.{as_number, number_of, cleared, counted, first, summed, valued}
 use Rattle.rules.specs.Parts.{first_units}
 use Rattle.rules.specs.Rows.{recode_refusal}
 use Rattle.rules.specs.Values.{element_at, element_of, limb, limbs_of, number, places, point_at, value_of}
 use Rattle.rules.specs.Windows.{any_over, point_refusal}
+use Rattle.rules.specs.Results.{as_value}
 use Rattle.rules.specs.Claims.{Says}
 use Rattle.arguments.proofs.Contracts.{says}
+
+-- rules
+pub one-rules-refusal-number : Says Rattle.rules.proofs.Refusal.number.Reads.Post (λ κ (refusal, _). number_of refusal) (λ κ r _. r)
+one-rules-refusal-number = says
 
 -- digit
 pub one-digit-magnitude : Says Rattle.digit.proofs.magnitude.Reads.Post (λ κ (d, _). nat_abs d) (λ κ r _. r)
@@ -72,7 +77,7 @@ one-bits-power = says
 pub one-bits-bit-buf : Says Rattle.bits.proofs.bit_buf.Reads.Post (λ κ (x, (at, (w, _))). waiting_bits x at w) (λ κ r _. r)
 one-bits-bit-buf = says
 
-pub one-bits-recode-refusal : Says Rattle.bits.proofs.recode_refusal.Reads.Post (λ κ (scalar, (low, (w, _))). recode_refusal low scalar.now w) (λ κ r _. r)
+pub one-bits-recode-refusal : Says Rattle.bits.proofs.recode_refusal.Reads.Post (λ κ (scalar, (low, (w, _))). recode_refusal low scalar.now w) (λ κ r _. as_number r)
 one-bits-recode-refusal = says
 
 -- answer
@@ -120,19 +125,19 @@ pub one-residue-mul-by-pow-2 : Says Rattle.residue.proofs.mul_by_pow_2.Reads.Pos
 one-residue-mul-by-pow-2 = says
 
 -- group
-pub one-group-point-refusal : Says Rattle.group.proofs.point_refusal.Reads.Post (λ κ (p, _). point_refusal p.now) (λ κ r _. r)
+pub one-group-point-refusal : Says Rattle.group.proofs.point_refusal.Reads.Post (λ κ (p, _). point_refusal p.now) (λ κ r _. as_number r)
 one-group-point-refusal = says
 
-pub one-group-add : Says Rattle.group.proofs.add.Reads.Post (λ κ (a, (b, _)). group_add a.now b.now) (λ κ r _. r)
+pub one-group-add : Says Rattle.group.proofs.add.Reads.Post (λ κ (a, (b, _)). group_add a.now b.now) (λ κ r _. as_value r)
 one-group-add = says
 
-pub one-group-subtract : Says Rattle.group.proofs.subtract.Reads.Post (λ κ (a, (b, _)). group_subtract a.now b.now) (λ κ r _. r)
+pub one-group-subtract : Says Rattle.group.proofs.subtract.Reads.Post (λ κ (a, (b, _)). group_subtract a.now b.now) (λ κ r _. as_value r)
 one-group-subtract = says
 
-pub one-group-negate : Says Rattle.group.proofs.negate.Reads.Post (λ κ (a, _). group_negate a.now) (λ κ r _. r)
+pub one-group-negate : Says Rattle.group.proofs.negate.Reads.Post (λ κ (a, _). group_negate a.now) (λ κ r _. as_value r)
 one-group-negate = says
 
-pub one-group-double : Says Rattle.group.proofs.double.Reads.Post (λ κ (a, _). group_double a.now) (λ κ r _. r)
+pub one-group-double : Says Rattle.group.proofs.double.Reads.Post (λ κ (a, _). group_double a.now) (λ κ r _. as_value r)
 one-group-double = says
 
 -- lent
@@ -155,19 +160,19 @@ pub one-lent-any-over : Says Rattle.lent.proofs.any_over.Reads.Post (λ κ (limb
 one-lent-any-over = says
 
 -- asks
-pub one-asks-plain-lists : Says Rattle.asks.proofs.plain_lists.Reads.Post (λ κ (scalars, (points, _)). first (plain_lists scalars.now points.now)) (λ κ r _. r)
+pub one-asks-plain-lists : Says Rattle.asks.proofs.plain_lists.Reads.Post (λ κ (scalars, (points, _)). first (plain_lists scalars.now points.now)) (λ κ r _. as_number r)
 one-asks-plain-lists = says
 
-pub one-asks-lists : Says Rattle.asks.proofs.lists.Reads.Post (λ κ (scalars, (points, (flags, _))). first (flagged_lists scalars.now points.now flags.now)) (λ κ r _. r)
+pub one-asks-lists : Says Rattle.asks.proofs.lists.Reads.Post (λ κ (scalars, (points, (flags, _))). first (flagged_lists scalars.now points.now flags.now)) (λ κ r _. as_number r)
 one-asks-lists = says
 
-pub one-asks-room : Says Rattle.asks.proofs.room.Reads.Post (λ κ (needed-digits, (digits, (needed-limbs, (limbs, _)))). first (enough_room needed-digits digits needed-limbs limbs)) (λ κ r _. r)
+pub one-asks-room : Says Rattle.asks.proofs.room.Reads.Post (λ κ (needed-digits, (digits, (needed-limbs, (limbs, _)))). first (enough_room needed-digits digits needed-limbs limbs)) (λ κ r _. as_number r)
 one-asks-room = says
 
-pub one-asks-plain-contents : Says Rattle.asks.proofs.plain_contents.Reads.Post (λ κ (scalars, (points, _)). first (plain_contents scalars.now points.now)) (λ κ r _. r)
+pub one-asks-plain-contents : Says Rattle.asks.proofs.plain_contents.Reads.Post (λ κ (scalars, (points, _)). first (plain_contents scalars.now points.now)) (λ κ r _. as_number r)
 one-asks-plain-contents = says
 
-pub one-asks-contents : Says Rattle.asks.proofs.contents.Reads.Post (λ κ (scalars, (points, (flags, (n, _)))). first (flagged_contents scalars.now points.now flags.now n)) (λ κ r _. r)
+pub one-asks-contents : Says Rattle.asks.proofs.contents.Reads.Post (λ κ (scalars, (points, (flags, (n, _)))). first (flagged_contents scalars.now points.now flags.now n)) (λ κ r _. as_number r)
 one-asks-contents = says
 
 -- room, at any type of the places: digits, limbs, bytes, and others
