@@ -59,12 +59,12 @@ pub(crate) fn set_refusal(digits: usize, windows: usize, slot: usize, scalar: &[
     Ok(())
 }
 
-// Whether a digit is neither 0 nor odd within -15 to 15.
+// Whether a digit is neither 0 nor odd within -15 to 15. Most digits are 0, and for these the first test ends it.
 fn wild(d: i8) -> bool
     ensures { result ≡ wild_digit d }
 {
     let m = digit::magnitude(d);
-    (m != 0) & ((m % 2 == 0) | (15 < m))
+    m != 0 && (m % 2 == 0 || 15 < m)
 }
 
 // 10: whether a prepared digit is so.
