@@ -52,7 +52,7 @@ pub fn pairs(scalars: &[u8], points: &[u64]) -> usize
 pub fn any_big(scalars: &[u8]) -> bool
     ensures { result ≡ any_big scalars.now }
 {
-    (0..scalars.len() / 32).any(|i| TOP < scalars[32 * i + 31])
+    scalars.as_chunks::<32>().0.iter().any(|s| TOP < s[31])
 }
 
 // 7 or 10: whether an element of flat limbs is at or above L.

@@ -1,10 +1,13 @@
 -- The eight bytes of a limb: what `from_le_bytes` reads, and what `to_le_bytes` writes.
-use Rattle.std.proofs.Common.{◌≡◌, ℕ, zero, suc, ◌+◌, ◌*◌, ◌/◌, ◌%◌, ◌^◌, ◌<◌, ◌≤◌, List, get_or, take, drop, refl, sym, ap, ◌∙◌, subst, arith}
-use native.Mathlib.Decide.{ℕ_discrete}
-use native.Mathlib.Nat.{add-zero, div-eq_of_lt, lt_of_lt_of_le}
+use Rattle.std.proofs.Common.{◌≡◌, ℕ, zero, suc, ◌+◌, ◌*◌, ◌/◌, ◌%◌, ◌^◌, ◌<◌, ◌≤◌, List, [], ◌++◌, get_or, take, drop, length, replicate, min, ◌-◌, refl, sym, ap, ◌∙◌, subst, arith}
+use native.Mathlib.Decide.{ℕ_discrete, dec_lt}
+use native.Mathlib.Nat.{add-zero, add_comm, mul-zero, mul-suc, div-eq_of_lt, lt_of_lt_of_le}
+use lib.ListN.{length-take, get_or-eq_default, get_or-append}
+use lib.Seq.{get_or-take, get_or-drop, get_or-append_right, drop-drop}
 use lib.Pow.{pow_mono}
 use mir.Syntax.{w64}
 use denote.Param.Members.{Mut}
+use Rattle.std.specs.Simd.{first_chunks}
 use Rattle.std.specs.Fn.{Called}
 use Rattle.std.specs.Array.{IsFromFnResultFrom}
 use Rattle.std.specs.Int.{from_le_bytes, to_le_bytes}
@@ -67,6 +70,46 @@ module _ (l : List ℕ) (n : ℕ) where
         b 6 (omega arith),
         b 7 (omega arith),
       )
+
+-- chunk i of n elements each
+pub chunk-is : (n c : ℕ) (l : List ℕ) (i : ℕ) → i < c → get_or (first_chunks n c l) i [] ≡ take n (drop (n * i) l)
+chunk-is n zero l i h = absurd (omega arith)
+chunk-is n (suc c) l zero h = rw (mul-zero n)
+chunk-is n (suc c) l (suc i) h =
+    let e : n + n * i ≡ n * suc i = add_comm n (n * i) ∙ sym (mul-suc n i) in
+    chunk-is n c (drop n l) i (omega arith) ∙ ap (λ (t : List ℕ). take n t) (drop-drop (n * i) n l ∙ ap (λ (j : ℕ). drop j l) e)
+
+-- its place j
+pub chunk_at : (n c : ℕ) (l : List ℕ) (i j : ℕ) → i < c → j < n → get_or (get_or (first_chunks n c l) i []) j 0 ≡ get_or l (n * i + j) 0
+chunk_at n c l i j h g = rw (chunk-is n c l i h) (get_or-take n (drop (n * i) l) j 0 g ∙ get_or-drop (n * i) l j 0)
+
+pub zeros : (n i : ℕ) → get_or {A = ℕ} (replicate n 0) i 0 ≡ 0
+zeros zero i = refl
+zeros (suc n) zero = refl
+zeros (suc n) (suc i) = zeros n i
+
+-- the front n places of l, and 0 after them
+pub padded : (l z : List ℕ) (n k : ℕ) → n ≡ min (length l) 32 → ((i : ℕ) → get_or z i 0 ≡ 0) → k < 32 → get_or (take n l ++ drop n z) k 0 ≡ get_or l k 0
+padded l z n k e h lt = go (dec_lt k n)
+  where
+    long : length (take n l) ≡ n
+    long = simp length-take (omega arith)
+
+    go : Dec (k < n) → get_or (take n l ++ drop n z) k 0 ≡ get_or l k 0
+    go (yes g) = get_or-append (take n l) (drop n z) 0 k (omega (arith, long)) ∙ get_or-take n l k 0 g
+    go (no g) =
+        get_or-append_right (take n l) (drop n z) k 0 (omega (arith, long)) ∙ get_or-drop n z (k - length (take n l)) 0 ∙ h (n + (k - length (take n l)))
+        ∙ sym (get_or-eq_default l 0 {n = k} (omega arith))
+
+-- parts that agree at each place say the same number
+pub part-same : (l m : List ℕ) (c n : ℕ) → ((k : ℕ) → k < c → get_or l (n + k) 0 ≡ get_or m (n + k) 0) → number 256 (take c (drop n l)) ≡ number 256 (take c (drop n m))
+unfolding number
+part-same l m zero n h = refl
+part-same l m (suc c) n h =
+    let head : get_or l n 0 ≡ get_or m n 0 = rw (add-zero n) at (h 0 (omega arith)) in
+    let rest : number 256 (take c (drop (suc n) l)) ≡ number 256 (take c (drop (suc n) m)) =
+    part-same l m c (suc n) λ k g. let e : n + suc k ≡ suc n + k = omega arith in rw e at (h (suc k) (omega arith)) in
+    rw (part_at 256 l c n, part_at 256 m c n, head, rest)
 
 -- byte k of a limb, and none past its eight
 pub byte-is : (x k : ℕ) → x < limb → get_or (to_le_bytes w64 x) k 0 ≡ x / 2 ^ (8 * k) % 256

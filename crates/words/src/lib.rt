@@ -1,7 +1,7 @@
 // 32 bytes to four limbs and back, lowest first.
 #![tactic(auto)]
 
-ghost use Rattle.std.specs.Prelude.{◌≡◌, ◌*◌, ◌/◌, ◌%◌, ◌^◌, ◌<◌, get_or, take, drop};
+ghost use Rattle.std.specs.Prelude.{◌≡◌, ℕ, ◌*◌, ◌/◌, ◌%◌, ◌^◌, ◌<◌, get_or, take, drop};
 ghost use Rattle.rules.specs.Values.{number, places, limb, element_of, point_at};
 
 use rules::Element;
@@ -13,23 +13,34 @@ pub fn byte_at(bytes: &[u8], k: usize) -> u8
     bytes.get(k).copied().unwrap_or(0)
 }
 
-// Limb i of what the bytes say: eight of them, lowest first.
-fn limb_of(bytes: &[u8], i: usize) -> u64
+// The first 32 bytes of a list; bytes past its end are 0.
+fn first_32(bytes: &[u8]) -> [u8; 32]
+    ensures { (k : ℕ) → k < 32 → get_or result k 0 ≡ get_or bytes.now k 0 }
+{
+    let n = bytes.len().min(32);
+    let mut first = [0u8; 32];
+    first[..n].copy_from_slice(&bytes[..n]);
+    first
+}
+
+// Limb i of what 32 bytes say: eight of them, lowest first.
+fn limb_of(bytes: &[u8; 32], i: usize) -> u64
     requires { i < 4 }
     ensures { result ≡ number 256 (take 8 (drop (8 * i) bytes.now)) }
 {
-    u64::from_le_bytes(std::array::from_fn(|k| byte_at(bytes, 8 * i + k)))
+    u64::from_le_bytes(bytes.as_chunks::<8>().0[i])
 }
 
 // The first 32 bytes as four limbs; bytes past their end are 0.
 pub fn element(bytes: &[u8]) -> Element
     ensures { result ≡ element_of (number 256 (take 32 bytes.now)) }
 {
+    let first = first_32(bytes);
     Element {
-        l0: limb_of(bytes, 0),
-        l1: limb_of(bytes, 1),
-        l2: limb_of(bytes, 2),
-        l3: limb_of(bytes, 3),
+        l0: limb_of(&first, 0),
+        l1: limb_of(&first, 1),
+        l2: limb_of(&first, 2),
+        l3: limb_of(&first, 3),
     }
 }
 

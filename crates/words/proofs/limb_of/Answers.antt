@@ -1,12 +1,11 @@
 -- A limb: what its eight bytes say.
-use Rattle.std.proofs.Common.{ℕ, ◌+◌, ◌*◌, List, get_or, refl, ◌∙◌, arith, rules, tests}
-use Rattle.words.proofs.Eight.{each-is, eight-says}
+use Rattle.std.proofs.Common.{ℕ, ◌*◌, List, [], get_or, ap, ◌∙◌, arith}
+use Rattle.words.proofs.Eight.{chunk_at, eight-says}
 use Rattle.words.proofs.limb_of.Goals as goal
 
 pub returns : goal.returns
 returns c =
     let l = c.args.bytes.now in
-    let n : ℕ = 8 * c.args.i in
-    let ys : List ℕ = c.from_fn.result in
+    let i = c.args.i in
     c.from_le_bytes.ensures
-    ∙ eight-says l n ys (λ k h. each-is _ (λ (k : ℕ). get_or l (n + k) 0) _ (λ x b q r. search (rules, tests)) ys 0 8 _ refl c.from_fn.ensures.items.each k (omega arith) (omega arith))
+    ∙ eight-says l (8 * i) (get_or c.as_chunks.result.0.now i []) (λ k h. ap (λ (x : List (List ℕ)). get_or (get_or x i []) k 0) c.as_chunks.ensures.front ∙ chunk_at 8 _ l i k (omega arith) h)
