@@ -41,7 +41,7 @@ fn pair_refusal(a: &[u64], b: &[u64]) -> Result<(), Refusal>
     Ok(())
 }
 
-// The sum of two lent elements.
+// The sum of two lent elements. Each call is its question and one operation: one function that is handed the operation would be no shorter.
 pub fn add(a: &[u64], b: &[u64]) -> Result<Element, Refusal>
     ensures { as_value result ≡ group_add a.now b.now }
 {

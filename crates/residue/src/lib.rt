@@ -8,7 +8,7 @@ ghost use Rattle.rules.specs.Loops.{doubled};
 
 use rules::Element;
 
-// The order L of the group.
+// The order L of the group; a function and no constant, since README.md names it so.
 #[tactic(auto, unfolding(rules::specs::Group::L, rules::specs::Values::element_of))]
 pub fn order() -> Element
     ensures { result ≡ element_of L }
