@@ -71,13 +71,11 @@ fn bad_lists(points: &[u64], flags: &[u8]) -> bool
     ensures { result ≡ bad_lists points.now flags.now }
 {
     let n = points.len() / 4;
-    let mut i: usize = 0;
-    while i < flags.len() {
+    for i in 0..flags.len() {
         let over = point_over(optional_at(points, flags, i));
         if (1 < flags[i]) | ((i < n) & over) {
             return true;
         }
-        i += 1;
     }
     false
 }
@@ -86,12 +84,10 @@ fn bad_lists(points: &[u64], flags: &[u8]) -> bool
 fn present(points: &[u64], flags: &[u8], n: usize) -> Result<(), Refusal>
     ensures { as_number result ≡ first ((absent_below points.now flags.now n, absent_point) ∷ []) }
 {
-    let mut i: usize = 0;
-    while i < n {
+    for i in 0..n {
         let Some(_) = optional_at(points, flags, i) else {
             return Err(Refusal::AbsentPoint);
         };
-        i += 1;
     }
     Ok(())
 }

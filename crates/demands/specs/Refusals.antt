@@ -10,7 +10,7 @@ use Rattle.rules.specs.Windows.{point_conditions, point_refusal, lookup_table, n
 use Rattle.rules.specs.Calls.{pair_conditions, pair_refusal, group_add, group_subtract, group_negate, group_double}
 use Rattle.rules.specs.Engines.{radix_straus_conditions, radix_straus_refusal, radix_straus, naf_straus_conditions, naf_straus_refusal, naf_straus, pippenger_conditions, pippenger_refusal, pippenger, new_conditions, new_refusal, new_tables, mixed_conditions, mixed_refusal, mixed, single_conditions, single_refusal, single, double_conditions, double_refusal, double}
 use Rattle.rules.specs.Batch.{Memory, prepare_conditions, prepare_refusal, prepare, set_conditions, set_refusal, set_slot, clear_slot, total_conditions, total_refusal, total_of}
-use Rattle.rules.specs.Claims.{Refuses, a_value, a_sum, a_naf_row, a_radix_row, a_scalar, a_window, with_room, with_tables, with_memory}
+use Rattle.rules.specs.Claims.{Refuses, a_value, a_sum, a_naf_row, a_radix_row, a_scalar, a_window8, a_window64, with_room, with_tables, with_memory}
 use Rattle.arguments.proofs.Refusing.{value-refuses, sum-refuses, row-refuses, scalar-refuses, window-refuses, room-refuses, tables-refuse, memory-refuses, never}
 
 -- the group
@@ -48,15 +48,15 @@ unfolding read_radix read_radix_refusal
 read-radix-refuses row w = scalar-refuses _ (omega arith) _
 
 -- windows and lookups
-pub lookup-table-refuses : (p : List ℕ) → Refuses (a_window 8) (point_conditions p) (lookup_table p)
+pub lookup-table-refuses : (p : List ℕ) → Refuses a_window8 (point_conditions p) (lookup_table p)
 unfolding lookup_table point_refusal
 lookup-table-refuses p = window-refuses _ (omega arith) 8 _
 
-pub naf-lookup-table5-refuses : (p : List ℕ) → Refuses (a_window 8) (point_conditions p) (naf_lookup_table5 p)
+pub naf-lookup-table5-refuses : (p : List ℕ) → Refuses a_window8 (point_conditions p) (naf_lookup_table5 p)
 unfolding naf_lookup_table5 point_refusal
 naf-lookup-table5-refuses p = window-refuses _ (omega arith) 8 _
 
-pub naf-lookup-table8-refuses : (p : List ℕ) → Refuses (a_window 64) (point_conditions p) (naf_lookup_table8 p)
+pub naf-lookup-table8-refuses : (p : List ℕ) → Refuses a_window64 (point_conditions p) (naf_lookup_table8 p)
 unfolding naf_lookup_table8 point_refusal
 naf-lookup-table8-refuses p = window-refuses _ (omega arith) 64 _
 

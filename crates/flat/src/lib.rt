@@ -13,7 +13,7 @@ pub fn array(e: Element) -> [u64; 4]
     [e.l0, e.l1, e.l2, e.l3]
 }
 
-// Limb c of element i of flat limbs, 0 past their end.
+// Limb c of element i of flat limbs, 0 past their end; the test of i keeps its place within a word.
 fn limb_at(l: &[u64], i: usize, c: usize) -> u64
     requires { c < 4 }
     ensures { result ≡ get_or l.now (4 * i + c) 0 }

@@ -3,7 +3,7 @@
 
 use batch::{POINT_LIMBS, SCALAR_BYTES, SLOT_DIGITS, SLOT_LIMBS};
 use room::parts;
-use rules::{Counted, OptionalPoint};
+use rules::{Counts, Refusal};
 use std::fmt;
 
 // The orders of the story are three.
@@ -35,76 +35,64 @@ struct Number([u64; POINT_LIMBS]);
 // It is written in decimal where it fits one limb, and else as 64 hex digits, highest first.
 impl fmt::Display for Number {
     fn fmt<W: fmt::Write>(&self, f: &mut fmt::Formatter<W>) -> fmt::Result {
-        let [a, b, c, d] = self.0;
-        if (b == 0) & (c == 0) & (d == 0) {
-            write!(f, "{a}")
-        } else {
-            write!(f, "{d:016x}{c:016x}{b:016x}{a:016x}")
+        match self.0 {
+            [a, 0, 0, 0] => write!(f, "{a}"),
+            [a, b, c, d] => write!(f, "{d:016x}{c:016x}{b:016x}{a:016x}"),
         }
     }
 }
 
-// Why there is no total.
+// Why there is no total: preparing or an edit was refused, or the memory is no batch.
 #[derive(Clone, Copy)]
 enum NoTotal {
-    Refused,
-    NoBatch,
+    Refused(Refusal),
+    NoBatch(Refusal),
 }
 
 impl fmt::Display for NoTotal {
     fn fmt<W: fmt::Write>(&self, f: &mut fmt::Formatter<W>) -> fmt::Result {
         f.write_str(match self {
-            NoTotal::Refused => "a call was refused",
-            NoTotal::NoBatch => "this memory is no batch",
+            NoTotal::Refused(_) => "a call was refused",
+            NoTotal::NoBatch(_) => "this memory is no batch",
         })
     }
 }
 
-// A call is done where its number is 0; the number is written either way.
-fn done(rt: &impl Print, call: &str, answer: Counted) -> Result<(), NoTotal> {
-    let number = answer.number;
-    let _ = print!(rt; "{call}: number {number}\n");
-    if number == 0 {
-        Ok(())
-    } else {
-        Err(NoTotal::Refused)
-    }
+// The number of a call is written: 0 where it is done, and else that of its refusal. What it took is left out.
+fn done(rt: &impl Print, call: &str, answer: Result<Counts, Refusal>) -> Result<(), Refusal> {
+    let number = answer.err().map_or(0, Refusal::number);
+    let _ = println!(rt; "{call}: number {number}");
+    answer.map(|_| ())
 }
 
 // The total is taken only where preparing and every edit were done.
-fn total(ready: Result<(), NoTotal>, digits: &[i8], windows: &[u64]) -> Result<Number, NoTotal> {
-    ready?;
-    let sum = batch::total(digits, windows);
-    if sum.number == 0 {
-        Ok(Number(sum.value))
-    } else {
-        Err(NoTotal::NoBatch)
-    }
+fn total(ready: Result<(), Refusal>, digits: &[i8], windows: &[u64]) -> Result<Number, NoTotal> {
+    ready.map_err(NoTotal::Refused)?;
+    let sum = batch::total(digits, windows).map_err(NoTotal::NoBatch)?;
+    Ok(Number(flat::array(sum.element)))
 }
 
 // The total is written, or why there is none.
-fn report(rt: &impl Print, ready: Result<(), NoTotal>, digits: &[i8], windows: &[u64]) {
+fn report(rt: &impl Print, ready: Result<(), Refusal>, digits: &[i8], windows: &[u64]) {
     let _ = match total(ready, digits, windows) {
-        Ok(sum) => print!(rt; "  total {sum}\n"),
-        Err(why) => print!(rt; "  no total: {why}\n"),
+        Ok(sum) => println!(rt; "  total {sum}"),
+        Err(why) => println!(rt; "  no total: {why}"),
     };
 }
 
 // A slot is read back: its row gives the scalar, and the first entry of its window is the point.
 fn read_back(rt: &impl Print, digits: &[i8], windows: &[u64], slot: usize) {
     let Some(row) = digits.chunks_exact(SLOT_DIGITS).nth(slot) else {
-        let _ = print!(rt; "  there is no such slot\n");
+        let _ = println!(rt; "  there is no such slot");
         return;
     };
-    let read = reader::read_naf(row, 5);
-    if read.number != 0 {
-        let _ = print!(rt; "  no scalar has this row\n");
+    let Ok(bytes) = reader::read_naf(row, 5) else {
+        let _ = println!(rt; "  no scalar has this row");
         return;
-    }
-    let bytes = read.bytes;
+    };
     let scalar = Number(flat::array(words::element(&bytes)));
     let point = Number(flat::array(flat::element_at(windows, SLOT_LIMBS / POINT_LIMBS * slot)));
-    let _ = print!(rt; "  scalar {scalar}, point {point}\n");
+    let _ = println!(rt; "  scalar {scalar}, point {point}");
 }
 
 // The orders before the first whose point is missing can go, and they are counted.
@@ -122,7 +110,7 @@ fn launch(rt: &impl Print, scalars: &[u8], points: &[u64], flags: &[u8]) {
     let mut windows = [0u64; ROOM * SLOT_LIMBS];
     let d = parts::first_units_mut(&mut digits, SLOT_DIGITS, n);
     let w = parts::first_units_mut(&mut windows, SLOT_LIMBS, n);
-    let prepared = batch::prepare(s, p, f, &mut *d, &mut *w);
+    let prepared = batch::prepare(s, p, f, d, w);
     let ready = done(rt, "prepare the orders that have their points", prepared);
     report(rt, ready, d, w);
 }
@@ -138,8 +126,7 @@ fn main(rt: HostRuntime) {
     report(&rt, ready, &digits, &windows);
 
     let one = flat::element_at(&[1u64, 0, 0, 0], 0);
-    let point = OptionalPoint::Present(one);
-    let edited = batch::set(&mut digits, &mut windows, 1, &scalar(1), point);
+    let edited = batch::set(&mut digits, &mut windows, 1, &scalar(1), Some(one));
     let ready = ready.and(done(&rt, "set slot 1 to scalar 1 and point 1", edited));
     report(&rt, ready, &digits, &windows);
 
@@ -150,12 +137,12 @@ fn main(rt: HostRuntime) {
     // A refused edit writes nothing, and there is no total until it is mended.
     let digits_before = digits;
     let windows_before = windows;
-    let point = OptionalPoint::Present(residue::negative(one));
+    let point = Some(residue::negative(one));
     let refused = batch::set(&mut digits, &mut windows, 3, &scalar(4), point);
     let accepted = done(&rt, "set slot 3, which the batch has not", refused);
     report(&rt, ready.and(accepted), &digits, &windows);
-    if (digits == digits_before) & (windows == windows_before) {
-        let _ = print!(&rt; "  nothing changed\n");
+    if digits == digits_before && windows == windows_before {
+        let _ = println!(&rt; "  nothing changed");
     }
 
     let mended = batch::set(&mut digits, &mut windows, 2, &scalar(4), point);

@@ -120,6 +120,9 @@ module _ {A : Type 0} (o : Ops A) (read : List ℕ → ℕ → A) (store : List 
     inside : (i : ℕ) → i < m → u * nat_abs (digit_at ds i j) ≤ length l₁
     inside i p = rw long (le_trans (h.small i p) room)
 
+    pub column-placed : Placed u ds m j (length l₁)
+    column-placed = record { rows = h.rows; place = h.place; small = inside }
+
     pub column-is : ((k : ℕ) → k < n → read l₁ k ≡ o.e) → {l₂ : List ℕ} {x : A} → 1 < n → l₂ ≡ put_rows_in o read store ds P j m l₁ → x ≡ bucket_sum o (read l₂) (n - 1)
         → x ≡ column_in o ds P m n j
     unfolding column_in

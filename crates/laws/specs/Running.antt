@@ -12,6 +12,7 @@ use Rattle.rules.specs.Helpers.{entry_in}
 use Rattle.laws.specs.Loops.{down-none, down_turn}
 use Rattle.laws.specs.Weight.{column_weight, column-empty, column-row, weight-empty, weight-off, weight-le}
 use Rattle.laws.specs.Columns.{column-none, column-more, turn, walk_is}
+use Rattle.laws.specs.Parts.{part-is, part_length}
 
 -- a sum and its count
 pub record Run (A : Type 0) : Type 0 where
@@ -28,6 +29,13 @@ onward o d x q = running (moved o d q.sum x) (q.additions + nonzero d)
 -- with place j of m rows, whose entries are x
 unfoldable pub passed : {A : Type 0} → Ops A → List ℤ → (ℕ → ℕ → A) → ℕ → ℕ → Run A → Run A
 passed o ds x m j q = running (column o (slot_digit ds) x m j q.sum) (q.additions + column_weight (slot_digit ds) m j)
+
+-- there are m rows with their windows of n limbs, place j is one of theirs, and the additions can be counted
+pub record Passable (ds : List ℤ) (ws : List ℕ) (n m j a : ℕ) : Type 0 where
+  pub rows : 256 * m ≤ length ds
+  pub windows : n * m ≤ length ws
+  pub place : j < 256
+  pub count : a + column_weight (slot_digit ds) m j < 2 ^ 64
 
 -- n places more below n m
 pub room : (n i m k : ℕ) → i < m → n * m ≤ k → n * i + n ≤ k
@@ -74,6 +82,25 @@ module _ {A : Type 0} (o : Ops A) (read : List ℕ → ℕ → A) (ds : List ℤ
       let a : r.additions ≡ q.additions + total (λ i. nonzero (slot_digit ds i j)) i = ap (λ (x : Run A). x.additions) so_far in
       let g = total-grows (λ i. nonzero (slot_digit ds i j)) i m p in
       rw digit_is (omega (arith, count))
+
+-- the same where the parts are cut out by their ends, of m rows that can be passed
+module _ {A : Type 0} (o : Ops A) (read : List ℕ → ℕ → A) (ds : List ℤ) (ws : List ℕ) (n j : ℕ) (q : Run A) where
+  abbrev row_part : ℕ → List ℤ
+  row_part i = take (256 * i + 256 - 256 * i) (drop (256 * i) ds)
+
+  abbrev window_part : ℕ → List ℕ
+  window_part i = take (n * i + n - n * i) (drop (n * i) ws)
+
+  pub passed-more-cut : (i : ℕ) (r r' : Run A) → r ≡ passed o ds (entry_in read n ws) i j q
+      → r' ≡ onward o (digit (row_part i) j) (read (window_part i) (odd_entry (digit (row_part i) j))) r → r' ≡ passed o ds (entry_in read n ws) (i + 1) j q
+  passed-more-cut i r r' e h = passed-more o read ds ws n j q i (row_part i) (part-is 256 i ds) r e (window_part i) (part-is n i ws) r' h
+
+  pub passed-fits-cut : (i m : ℕ) (r : Run A) → i < m → Passable ds ws n m j q.additions → r ≡ passed o ds (entry_in read n ws) i j q
+      → r.additions + nonzero (digit (row_part i) j) < 2 ^ 64
+  passed-fits-cut i m r p h e = passed-fits o read ds ws n j q i (row_part i) (part-is 256 i ds) r e m p h.count
+
+  pub row-long : (i m : ℕ) → i < m → Passable ds ws n m j q.additions → j < length (row_part i)
+  row-long i m p h = rw (part-is 256 i ds, part_length 256 i ds (room 256 i m (length ds) p h.rows)) h.place
 
 -- the loop down n places: m rows with entries x, then m' rows with entries x'
 module _ {A : Type 0} (o : Ops A) (ds : List ℤ) (x : ℕ → ℕ → A) (m : ℕ) (ds' : List ℤ) (x' : ℕ → ℕ → A) (m' n : ℕ) where
@@ -133,6 +160,15 @@ module _ {A : Type 0} (o : Ops A) (ds : List ℤ) (x : ℕ → ℕ → A) (m : �
       walking-passes' e u h =
           let a : u.additions ≡ r.additions + column_weight (slot_digit ds) m (j - 1) = ap (λ (q : Run A). q.additions) h in
           omega (arith, fits)
+
+    -- so both columns can be passed
+    module _ (more : 0 < j) (places : n ≤ 256) (rows : 256 * m ≤ length ds) (rows' : 256 * m' ≤ length ds') (small : length ds * 1 < 2 ^ 63)
+        (small' : length ds' * 1 < 2 ^ 63) (ws : List ℕ) (k : ℕ) where
+      pub walking-passable : k * m ≤ length ws → Passable ds ws k m (j - 1) r.additions
+      walking-passable windows = record { rows = rows; windows = windows; place = omega (arith, w.place); count = walking-passes more places rows rows' small small' }
+
+      pub walking-passable' : k * m' ≤ length ws → (e : A) (u : Run A) → u ≡ passed o ds x m (j - 1) (running e r.additions) → Passable ds' ws k m' (j - 1) u.additions
+      walking-passable' windows e u h = record { rows = rows'; windows = windows; place = omega (arith, w.place); count = walking-passes' more places rows rows' small small' e u h }
 
     pub walking-end : j ≡ 0 → (r.sum ≡ whole) × (r.additions ≡ heavy n)
     walking-end e =

@@ -100,6 +100,21 @@ module _ {A : Type 0} {o : Ops A} {In : A → Type 0} (l : Laws o In) where
   named : (d : ℕ → ℕ → ℤ) (x : ℕ → ℕ → A) (P : ℕ → A) (m n : ℕ) → Windowed o In d x P m n → Named In d x m n
   named d x P m n h i j p q = rw (h.entry-is i j p q) (odd-in l (odd_entry (d i j)) (h.point-in i p))
 
+  -- the walk over windows: every point as often as its row says
+  pub walk-digits : (d : ℕ → ℕ → ℤ) (x : ℕ → ℕ → A) (P : ℕ → A) (m : ℕ) (d' : ℕ → ℕ → ℤ) (x' : ℕ → ℕ → A) (P' : ℕ → A) (m' n : ℕ)
+      → Windowed o In d x P m n → Windowed o In d' x' P' m' n
+      → walk o d x m d' x' m' n ≡ sum_below o (λ i. times_z o (row_sum 2 (d i) n) (P i)) m ⊕ sum_below o (λ i. times_z o (row_sum 2 (d' i) n) (P' i)) m'
+  walk-digits d x P m d' x' P' m' n h h' =
+      walk-entries d x m d' x' m' n (named d x P m n h) (named d' x' P' m' n h') ∙ ap₂ ◌⊕◌ (row-digits d x P m n h) (row-digits d' x' P' m' n h')
+
+  -- where each row's weighted sum is its scalar
+  pub walk-sum : (d : ℕ → ℕ → ℤ) (x : ℕ → ℕ → A) (P : ℕ → A) (s : ℕ → ℕ) (m : ℕ) (d' : ℕ → ℕ → ℤ) (x' : ℕ → ℕ → A) (P' : ℕ → A) (s' : ℕ → ℕ) (m' n : ℕ)
+      → Windowed o In d x P m n → ((i : ℕ) → i < m → row_sum 2 (d i) n ≡ pos (s i))
+      → Windowed o In d' x' P' m' n → ((i : ℕ) → i < m' → row_sum 2 (d' i) n ≡ pos (s' i))
+      → walk o d x m d' x' m' n ≡ sum_below o (λ i. times o (s i) (P i)) m ⊕ sum_below o (λ i. times o (s' i) (P' i)) m'
+  walk-sum d x P s m d' x' P' s' m' n h r h' r' =
+      walk-digits d x P m d' x' P' m' n h h' ∙ ap₂ ◌⊕◌ (scalars-sum o 2 d P s m n r) (scalars-sum o 2 d' P' s' m' n r')
+
   -- rows of one kind only
   module _ (d : ℕ → ℕ → ℤ) (x : ℕ → ℕ → A) (m : ℕ) (d' : ℕ → ℕ → ℤ) (x' : ℕ → ℕ → A) (n : ℕ) where
     pub walk-entries-one : Named In d x m n → walk o d x m d' x' 0 n ≡ sum_below o (λ i. sum_below o (λ j. times o (2 ^ j) (term o d x i j)) n) m

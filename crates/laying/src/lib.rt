@@ -7,7 +7,7 @@ ghost use Rattle.rules.specs.Helpers.{row_places, row_of, laid_rows, window_entr
 
 use rules::{Counts, Element, Row, Window};
 
-// The places of a row. The kinds are matched here: their enums are arguments of `laid_rows` and `laid_windows` in `rules`, which has no code that a method could stand in.
+// The places of a row. The kinds are arguments of `laid_rows` and `laid_windows` in `rules`, and are matched here and not in methods there, since what they run stands in crates above `rules`.
 #[tactic(auto, unfolding(rules::specs::Helpers::row_places))]
 fn places(kind: Row) -> usize
     ensures { result ≡ row_places kind }

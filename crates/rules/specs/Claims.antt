@@ -42,6 +42,12 @@ a_scalar = record { number = λ r. r.number; zeros = λ n. record { number = n; 
 abbrev pub a_window : (N : ℕ) → Kind (WindowAnswer N)
 a_window N = record { number = λ r. r.number; zeros = λ n. record { number = n; limbs = replicate (4 * N) 0 } }
 
+abbrev pub a_window8 : Kind (WindowAnswer 8)
+a_window8 = a_window 8
+
+abbrev pub a_window64 : Kind (WindowAnswer 64)
+a_window64 = a_window 64
+
 -- beside it working room, tables or memory as they were
 abbrev pub with_room : List ℤ → List ℕ → Kind After
 with_room ds ls = record { number = λ r. r.result.number; zeros = λ n. record { result = a_sum.zeros n; digits = ds; limbs = ls } }

@@ -2,7 +2,7 @@
 #![tactic(auto)]
 
 use batch::{POINT_LIMBS, SCALAR_BYTES, SLOT_DIGITS, SLOT_LIMBS};
-use rules::{Element, OptionalPoint, Sum};
+use rules::{Counts, Element, Refusal, Walk};
 use std::fmt;
 
 // L, the group's order.
@@ -39,15 +39,18 @@ impl fmt::Display for Hex {
     }
 }
 
-// One line: the case's name, the number, the result.
-fn line(rt: &impl Print, name: &str, number: u8, value: [u64; POINT_LIMBS]) {
-    let result = Hex(value);
-    let _ = println!(rt; "{name} {number} {result}");
+// One line: the case's name, the number, the result, which is zeros where the call is refused.
+fn line(rt: &impl Print, name: &str, r: Result<Element, Refusal>) {
+    let r = match r {
+        Ok(e) => answer::value(e),
+        Err(refusal) => answer::refused_value(refusal.number()),
+    };
+    let _ = println!(rt; "{name} {} {}", r.number, Hex(r.value));
 }
 
 // The line of a sum.
-fn sum(rt: &impl Print, name: &str, r: Sum) {
-    line(rt, name, r.number, r.value);
+fn sum(rt: &impl Print, name: &str, r: Result<Walk, Refusal>) {
+    line(rt, name, r.map(|w| w.element));
 }
 
 // The line of NAF Straus on up to two pairs.
@@ -130,30 +133,41 @@ fn e9(rt: &impl Print) {
     );
 }
 
-// The point 1, present.
-fn one() -> OptionalPoint {
-    OptionalPoint::Present(Element {
+// The pair (1, 1) in a slot of a batch.
+fn set_one(digits: &mut [i8], windows: &mut [u64], slot: usize) -> Result<Counts, Refusal> {
+    let one = Element {
         l0: 1,
         l1: 0,
         l2: 0,
         l3: 0,
-    })
+    };
+    batch::set(digits, windows, slot, &scalar(1), Some(one))
 }
 
-// B1: the pairs of E1 prepared; slot 1 set to (1, 1), slot 0 cleared, slot 2 refused.
-fn b1(rt: &impl Print) {
+// B1a: the pairs of E1 prepared, and slot 1 set to (1, 1).
+fn b1a(digits: &mut [i8], windows: &mut [u64]) -> Result<Walk, Refusal> {
     let scalars = two_scalars(2, 5);
     let points = [3u64, 0, 0, 0, 7, 0, 0, 0];
     let flags = [1u8, 1];
+    batch::prepare(&scalars, &points, &flags, digits, windows)?;
+    set_one(digits, windows, 1)?;
+    batch::total(digits, windows)
+}
+
+// B1b: slot 0 of that batch cleared.
+fn b1b(digits: &mut [i8], windows: &mut [u64]) -> Result<Walk, Refusal> {
+    batch::clear(digits, windows, 0)?;
+    batch::total(digits, windows)
+}
+
+// B1: one batch of two slots, edited; B1c sets slot 2, which it has not.
+fn b1(rt: &impl Print) {
     let mut digits = [0i8; 2 * SLOT_DIGITS];
     let mut windows = [0u64; 2 * SLOT_LIMBS];
-    batch::prepare(&scalars, &points, &flags, &mut digits, &mut windows);
-    batch::set(&mut digits, &mut windows, 1, &scalar(1), one());
-    sum(rt, "B1a", batch::total(&digits, &windows));
-    batch::clear(&mut digits, &mut windows, 0);
-    sum(rt, "B1b", batch::total(&digits, &windows));
-    let r = batch::set(&mut digits, &mut windows, 2, &scalar(1), one());
-    line(rt, "B1c", r.number, [0u64; POINT_LIMBS]);
+    sum(rt, "B1a", b1a(&mut digits, &mut windows));
+    sum(rt, "B1b", b1b(&mut digits, &mut windows));
+    let edited = set_one(&mut digits, &mut windows, 2);
+    line(rt, "B1c", edited.map(|_| residue::identity()));
 }
 
 fn main(rt: HostRuntime) {
