@@ -44,6 +44,8 @@ def text_of(path):
 
 
 def main():
+    if os.path.exists("docs/DESIGN-PASS.md"):
+        sys.exit("spelling: it ran once, at the port; names are today's, and some are the library's, which it does not know")
     texts = {p: text_of(p) for p in [*files(".antt"), *files(".rt"), *files(".edit"), *PAGES]}
     logic = [t for p, t in texts.items() if p.endswith(".antt")]
     defined = {n for t in logic for n in DEFINED.findall(t)} - set(LEMMAS)

@@ -4,8 +4,9 @@
 ghost use Rattle.std.specs.Prelude.{◌≡◌};
 ghost use Rattle.rules.specs.Results.{as_counted, as_sum};
 ghost use Rattle.rules.specs.Engines.{after, after_new, new_tables, mixed};
-// The most static points: more are refused by 2.
+
 use crate::lists::Mixed;
+// The most static points: more are refused by 2.
 pub use lent::MOST_STATIC;
 use rules::{Counts, Refusal, Walk, Window};
 

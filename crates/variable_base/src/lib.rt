@@ -30,7 +30,7 @@ fn walk(row: [i8; 64], window: &[u64]) -> Walk
     w
 }
 
-// The number that the call answers.
+// What the call asks, and the refusal where it is not so.
 fn refusal(point: &[u64], scalar: &[u8]) -> Result<(), Refusal>
     ensures { as_number result ≡ single_refusal point.now scalar.now }
 {

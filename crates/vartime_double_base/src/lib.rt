@@ -31,7 +31,7 @@ fn start(a: &[i8], b: &[i8]) -> usize
     }
 }
 
-// The number that the call answers.
+// What the call asks, and the refusal where it is not so.
 fn refusal(a: &[u8], point: &[u64], b: &[u8]) -> Result<(), Refusal>
     ensures { as_number result ≡ double_refusal a.now point.now b.now }
 {
