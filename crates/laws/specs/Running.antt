@@ -65,10 +65,10 @@ module _ {A : Type 0} (o : Ops A) (read : List ℕ → ℕ → A) (ds : List ℤ
   unfolding slot_digit
   digit_is = ap (λ (t : List ℤ). digit t j) row_is
 
-  pub passed-more : (window : List ℕ) → window ≡ part n i ws → (r' : Run A) → r' ≡ onward o (digit row j) (read window (odd_entry (digit row j))) r
+  pub passed-row : (window : List ℕ) → window ≡ part n i ws → (r' : Run A) → r' ≡ onward o (digit row j) (read window (odd_entry (digit row j))) r
       → r' ≡ passed o ds (entry_in read n ws) (i + 1) j q
   unfolding passed onward entry_in
-  passed-more window window-is r' h =
+  passed-row window window-is r' h =
       h
       ∙ ap₂ (λ (z : ℤ) (w : List ℕ). onward o z (read w (odd_entry z)) r) digit_is window-is
       ∙ ap (onward o (slot_digit ds i j) (read (part n i ws) (odd_entry (slot_digit ds i j)))) so_far
@@ -76,9 +76,9 @@ module _ {A : Type 0} (o : Ops A) (read : List ℕ → ℕ → A) (ds : List ℤ
       (ap (λ (k : ℕ). q.additions + k) (column-row (slot_digit ds) i j)
       ∙ sym (add_assoc q.additions (column_weight (slot_digit ds) i j) (nonzero (slot_digit ds i j)))))
 
-  pub passed-fits : (m : ℕ) → i < m → q.additions + column_weight (slot_digit ds) m j < 2 ^ 64 → r.additions + nonzero (digit row j) < 2 ^ 64
+  pub passed-row-fits : (m : ℕ) → i < m → q.additions + column_weight (slot_digit ds) m j < 2 ^ 64 → r.additions + nonzero (digit row j) < 2 ^ 64
   unfolding passed column_weight
-  passed-fits m p count =
+  passed-row-fits m p count =
       let a : r.additions ≡ q.additions + total (λ i. nonzero (slot_digit ds i j)) i = ap (λ (x : Run A). x.additions) so_far in
       let g = total-grows (λ i. nonzero (slot_digit ds i j)) i m p in
       rw digit_is (omega (arith, count))
@@ -91,13 +91,13 @@ module _ {A : Type 0} (o : Ops A) (read : List ℕ → ℕ → A) (ds : List ℤ
   abbrev window_part : ℕ → List ℕ
   window_part i = take (n * i + n - n * i) (drop (n * i) ws)
 
-  pub passed-more-cut : (i : ℕ) (r r' : Run A) → r ≡ passed o ds (entry_in read n ws) i j q
+  pub passed-more : (i : ℕ) (r r' : Run A) → r ≡ passed o ds (entry_in read n ws) i j q
       → r' ≡ onward o (digit (row_part i) j) (read (window_part i) (odd_entry (digit (row_part i) j))) r → r' ≡ passed o ds (entry_in read n ws) (i + 1) j q
-  passed-more-cut i r r' e h = passed-more o read ds ws n j q i (row_part i) (part-is 256 i ds) r e (window_part i) (part-is n i ws) r' h
+  passed-more i r r' e h = passed-row o read ds ws n j q i (row_part i) (part-is 256 i ds) r e (window_part i) (part-is n i ws) r' h
 
-  pub passed-fits-cut : (i m : ℕ) (r : Run A) → i < m → Passable ds ws n m j q.additions → r ≡ passed o ds (entry_in read n ws) i j q
+  pub passed-fits : (i m : ℕ) (r : Run A) → i < m → Passable ds ws n m j q.additions → r ≡ passed o ds (entry_in read n ws) i j q
       → r.additions + nonzero (digit (row_part i) j) < 2 ^ 64
-  passed-fits-cut i m r p h e = passed-fits o read ds ws n j q i (row_part i) (part-is 256 i ds) r e m p h.count
+  passed-fits i m r p h e = passed-row-fits o read ds ws n j q i (row_part i) (part-is 256 i ds) r e m p h.count
 
   pub row-long : (i m : ℕ) → i < m → Passable ds ws n m j q.additions → j < length (row_part i)
   row-long i m p h = rw (part-is 256 i ds, part_length 256 i ds (room 256 i m (length ds) p h.rows)) h.place
@@ -152,23 +152,23 @@ module _ {A : Type 0} (o : Ops A) (ds : List ℤ) (x : ℕ → ℕ → A) (m : �
           let b : weight (slot_digit ds') m' n ≤ m' * 256 = le_trans (weight-le (slot_digit ds') m' n) (mul-le-mul_left m' places) in
           omega (arith, w.count, weight-off (slot_digit ds) m j more, weight-off (slot_digit ds') m' j more)
 
-      pub walking-passes : r.additions + column_weight (slot_digit ds) m (j - 1) < 2 ^ 64
-      walking-passes = omega (arith, fits)
+      pub walking-counts : r.additions + column_weight (slot_digit ds) m (j - 1) < 2 ^ 64
+      walking-counts = omega (arith, fits)
 
-      pub walking-passes' : (e : A) (u : Run A) → u ≡ passed o ds x m (j - 1) (running e r.additions) → u.additions + column_weight (slot_digit ds') m' (j - 1) < 2 ^ 64
+      pub walking-counts' : (e : A) (u : Run A) → u ≡ passed o ds x m (j - 1) (running e r.additions) → u.additions + column_weight (slot_digit ds') m' (j - 1) < 2 ^ 64
       unfolding passed
-      walking-passes' e u h =
+      walking-counts' e u h =
           let a : u.additions ≡ r.additions + column_weight (slot_digit ds) m (j - 1) = ap (λ (q : Run A). q.additions) h in
           omega (arith, fits)
 
     -- so both columns can be passed
     module _ (more : 0 < j) (places : n ≤ 256) (rows : 256 * m ≤ length ds) (rows' : 256 * m' ≤ length ds') (small : length ds * 1 < 2 ^ 63)
         (small' : length ds' * 1 < 2 ^ 63) (ws : List ℕ) (k : ℕ) where
-      pub walking-passable : k * m ≤ length ws → Passable ds ws k m (j - 1) r.additions
-      walking-passable windows = record { rows = rows; windows = windows; place = omega (arith, w.place); count = walking-passes more places rows rows' small small' }
+      pub walking-passes : k * m ≤ length ws → Passable ds ws k m (j - 1) r.additions
+      walking-passes windows = record { rows = rows; windows = windows; place = omega (arith, w.place); count = walking-counts more places rows rows' small small' }
 
-      pub walking-passable' : k * m' ≤ length ws → (e : A) (u : Run A) → u ≡ passed o ds x m (j - 1) (running e r.additions) → Passable ds' ws k m' (j - 1) u.additions
-      walking-passable' windows e u h = record { rows = rows'; windows = windows; place = omega (arith, w.place); count = walking-passes' more places rows rows' small small' e u h }
+      pub walking-passes' : k * m' ≤ length ws → (e : A) (u : Run A) → u ≡ passed o ds x m (j - 1) (running e r.additions) → Passable ds' ws k m' (j - 1) u.additions
+      walking-passes' windows e u h = record { rows = rows'; windows = windows; place = omega (arith, w.place); count = walking-counts' more places rows rows' small small' e u h }
 
     pub walking-end : j ≡ 0 → (r.sum ≡ whole) × (r.additions ≡ heavy n)
     walking-end e =

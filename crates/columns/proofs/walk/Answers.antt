@@ -2,7 +2,7 @@ use mathlib.Core.Path.{◌≡◌}
 use Prim.Native.Nat.{min}
 use native.Mathlib.Omega.{arith}
 use Rattle.rules.specs.Helpers.{windowed_rows}
-use Rattle.laws.specs.Running.{walking-none, walking-more, walking-passes, walking-passes'}
+use Rattle.laws.specs.Running.{walking-none, walking-more, walking-counts, walking-counts'}
 use Rattle.columns.proofs.Walking.{walking-end}
 use Rattle.columns.proofs.walk.Goals as goal
 
@@ -14,13 +14,13 @@ loop-j-init c =
 pub column-u-requires : goal.column-u-requires
 unfolding windowed_rows
 column-u-requires c =
-    let count = walking-passes _ _ _ _ _ _ _ _ _ _ c.loop-j.invariant.rest (omega arith) (omega arith) (omega arith) (omega arith) (omega arith) (omega arith) in
+    let count = walking-counts _ _ _ _ _ _ _ _ _ _ c.loop-j.invariant.rest (omega arith) (omega arith) (omega arith) (omega arith) (omega arith) (omega arith) in
     (omega arith, (omega arith, (omega (arith, c.loop-j.invariant.rest.place), count)))
 
 pub column-w-requires : goal.column-w-requires
 unfolding windowed_rows
 column-w-requires c =
-    let count = walking-passes' _ _ _ _ _ _ _ _ _ _ c.loop-j.invariant.rest (omega arith) (omega arith) (omega arith) (omega arith) (omega arith) (omega arith) _ _ c.column-u.ensures.sum in
+    let count = walking-counts' _ _ _ _ _ _ _ _ _ _ c.loop-j.invariant.rest (omega arith) (omega arith) (omega arith) (omega arith) (omega arith) (omega arith) _ _ c.column-u.ensures.sum in
     (omega arith, (omega arith, (omega (arith, c.loop-j.invariant.rest.place), count)))
 
 pub loop-j-preserved : goal.loop-j-preserved
