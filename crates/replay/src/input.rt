@@ -1,7 +1,7 @@
 // The cases on standard input: bytes through a buffer, and numbers.
 ghost use Rattle.std.specs.Prelude.{◌<◌, ◌≤◌, IsOk, length};
 
-use rules::{Element, OptionalPoint};
+use rules::Element;
 use std::io::{Read, Stdin};
 
 // A case that is malformed, or the end of the input.
@@ -85,7 +85,7 @@ impl Input {
     }
 
     // An optional point: a flag, 0 or 1, and four limbs in either case.
-    pub(crate) fn point(&mut self) -> Result<OptionalPoint, Malformed> {
+    pub(crate) fn point(&mut self) -> Result<Option<Element>, Malformed> {
         let flag = self.byte()?;
         let point = Element {
             l0: u64::from_le_bytes(self.bytes()?),
@@ -94,8 +94,8 @@ impl Input {
             l3: u64::from_le_bytes(self.bytes()?),
         };
         match flag {
-            0 => Ok(OptionalPoint::Absent),
-            1 => Ok(OptionalPoint::Present(point)),
+            0 => Ok(None),
+            1 => Ok(Some(point)),
             _ => Err(Malformed),
         }
     }

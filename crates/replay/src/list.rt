@@ -3,7 +3,7 @@ use crate::input::{Input, Malformed};
 use std::convert::AsSlice;
 
 // An item of a list: a byte, a digit or a limb.
-pub(crate) trait Item: Copy {
+pub(crate) trait Item: Copy + Default {
     type Bytes: AsSlice<u8> + Drop;
 
     // The next one of the input.

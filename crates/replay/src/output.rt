@@ -3,7 +3,7 @@ ghost use Rattle.std.specs.Prelude.{◌≡◌, ◌≤◌};
 
 use crate::checksum::checksum;
 use crate::list::Item;
-use rules::{Counted, Sum};
+use rules::{Counts, Element, Refusal, Walk};
 use std::convert::AsSlice;
 use std::fmt;
 use std::fmt::Write as _;
@@ -78,26 +78,9 @@ impl Output {
         self.waiting += 1;
     }
 
-    // The line of an answer that carries a value alone.
-    pub(crate) fn value<T: Item>(&mut self, number: u8, value: &[T]) {
-        let _ = writeln!(self, "{number} {} - -", Hex(value));
-    }
-
-    // An answer that carries counts alone; lent lists are to follow.
-    pub(crate) fn counted(&mut self, r: Counted) {
-        let _ = write!(self, "{} - {} {}", r.number, r.additions, r.doublings);
-    }
-
-    // An answer that carries a sum and what it took; lent lists may follow.
-    pub(crate) fn sum(&mut self, r: Sum) {
-        let _ = write!(
-            self,
-            "{} {} {} {}",
-            r.number,
-            Hex(&r.value),
-            r.additions,
-            r.doublings
-        );
+    // A number and a value, with no counts.
+    fn value<T: Item>(&mut self, number: u8, value: &[T]) {
+        let _ = write!(self, "{number} {} - -", Hex(value));
     }
 
     // A lent list: the number of its elements, and its content in full up to 64 bytes.
@@ -110,8 +93,15 @@ impl Output {
         };
     }
 
-    // The digits and windows that a call may write, and the end of the line.
-    pub(crate) fn both(&mut self, digits: &[i8], windows: &[u64]) {
+    // The line of an answer alone.
+    pub(crate) fn line<A: Answer>(&mut self, r: A) {
+        r.write_to(self);
+        self.end();
+    }
+
+    // The line of an answer, with the digits and windows that the call may write.
+    pub(crate) fn line_with_lent<A: Answer>(&mut self, r: A, digits: &[i8], windows: &[u64]) {
+        r.write_to(self);
         self.lent(digits);
         self.lent(windows);
         self.end();
@@ -125,5 +115,61 @@ impl Output {
     // The last line, where case k is malformed.
     pub(crate) fn malformed(&mut self, k: u64) {
         let _ = writeln!(self, "malformed at case {k}");
+    }
+}
+
+// A call's answer.
+pub(crate) trait Answer {
+    // Its fields, which stand before the lent lists: zeros where the call is refused.
+    fn write_to(self, output: &mut Output);
+}
+
+impl Answer for Result<Element, Refusal> {
+    // An element.
+    fn write_to(self, output: &mut Output) {
+        let r = match self {
+            Ok(e) => answer::value(e),
+            Err(refusal) => answer::refused_value(refusal.number()),
+        };
+        output.value(r.number, &r.value);
+    }
+}
+
+impl<T: Item, const N: usize> Answer for Result<[T; N], Refusal> {
+    // A row, a scalar or a window.
+    fn write_to(self, output: &mut Output) {
+        match self {
+            Ok(list) => output.value(0, &list),
+            Err(refusal) => output.value(refusal.number(), &[T::default(); N]),
+        }
+    }
+}
+
+impl Answer for Result<Counts, Refusal> {
+    // Counts alone.
+    fn write_to(self, output: &mut Output) {
+        let r = match self {
+            Ok(c) => answer::counted(c),
+            Err(refusal) => answer::refused_counted(refusal.number()),
+        };
+        let _ = write!(output, "{} - {} {}", r.number, r.additions, r.doublings);
+    }
+}
+
+impl Answer for Result<Walk, Refusal> {
+    // A sum, and what it took.
+    fn write_to(self, output: &mut Output) {
+        let r = match self {
+            Ok(w) => answer::sum(w.element, w.additions, w.doublings),
+            Err(refusal) => answer::refused_sum(refusal.number()),
+        };
+        let _ = write!(
+            output,
+            "{} {} {} {}",
+            r.number,
+            Hex(&r.value),
+            r.additions,
+            r.doublings
+        );
     }
 }

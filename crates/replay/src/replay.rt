@@ -3,9 +3,8 @@
 use crate::call::Call;
 use crate::input::{Input, Malformed};
 use crate::list::Item;
-use crate::output::Output;
+use crate::output::{Answer, Output};
 use batch::{MOST, SCALAR_BYTES, SLOT_DIGITS, SLOT_LIMBS};
-use rules::{ScalarBytes, Sum, Value, Window8};
 
 // The most bytes of a list: two scalars over the limit.
 pub(crate) const BYTES: usize = (MOST + 2) * SCALAR_BYTES;
@@ -52,14 +51,14 @@ impl Replay {
             Call::Subtract => self.of_two(group::subtract),
             Call::Negate => self.of_one(group::negate),
             Call::Double => self.of_one(group::double),
-            Call::NonAdjacentForm => self.non_adjacent_form(),
+            Call::NonAdjacentForm => self.recode(scalar::non_adjacent_form),
             Call::Radix16 => self.radix_16(),
-            Call::Radix2w => self.radix_2w(),
+            Call::Radix2w => self.recode(radix::as_radix_2w),
             Call::ReadNaf => self.read(reader::read_naf),
             Call::ReadRadix => self.read(reader::read_radix),
-            Call::LookupTable => self.table(window::lookup_table),
-            Call::NafLookupTable5 => self.table(window::naf_lookup_table5),
-            Call::NafLookupTable8 => self.naf_table_8(),
+            Call::LookupTable => self.of_one(window::lookup_table),
+            Call::NafLookupTable5 => self.of_one(window::naf_lookup_table5),
+            Call::NafLookupTable8 => self.of_one(window::naf_lookup_table8),
             Call::Select => self.select(lookup::select),
             Call::SelectNaf5 => self.select(lookup::select_naf5),
             Call::SelectNaf8 => self.select(lookup::select_naf8),
@@ -78,81 +77,58 @@ impl Replay {
     }
 
     // An element of two.
-    fn of_two<F: Fn(&[u64], &[u64]) -> Value>(&mut self, call: F) -> Result<(), Malformed>
+    fn of_two<A: Answer, F: Fn(&[u64], &[u64]) -> A>(&mut self, call: F) -> Result<(), Malformed>
         requires { F.IsAlwaysCallable call }
     {
         let a = self.input.list(&mut self.points)?;
         let b = self.input.list(&mut self.more_points)?;
-        let r = call(a, b);
-        self.output.value(r.number, &r.value);
+        self.output.line(call(a, b));
         Ok(())
     }
 
-    // An element of one.
-    fn of_one<F: Fn(&[u64]) -> Value>(&mut self, call: F) -> Result<(), Malformed>
+    // An element or a window of one.
+    fn of_one<A: Answer, F: Fn(&[u64]) -> A>(&mut self, call: F) -> Result<(), Malformed>
         requires { F.IsAlwaysCallable call }
     {
-        let r = call(self.input.list(&mut self.points)?);
-        self.output.value(r.number, &r.value);
+        let a = self.input.list(&mut self.points)?;
+        self.output.line(call(a));
         Ok(())
     }
 
-    // The non-adjacent form of a scalar.
-    fn non_adjacent_form(&mut self) -> Result<(), Malformed> {
+    // A scalar's row at a width.
+    fn recode<A: Answer, F: Fn(&[u8], usize) -> A>(&mut self, call: F) -> Result<(), Malformed>
+        requires { F.IsAlwaysCallable call }
+    {
         let scalar = self.input.list(&mut self.scalars)?;
-        let r = scalar::non_adjacent_form(scalar, self.input.number()?);
-        self.output.value(r.number, &r.row);
+        let width = self.input.number()?;
+        self.output.line(call(scalar, width));
         Ok(())
     }
 
     // A scalar's digits to the base 16.
     fn radix_16(&mut self) -> Result<(), Malformed> {
-        let r = radix::as_radix_16(self.input.list(&mut self.scalars)?);
-        self.output.value(r.number, &r.row);
-        Ok(())
-    }
-
-    // A scalar's digits to a base that is a power of two.
-    fn radix_2w(&mut self) -> Result<(), Malformed> {
         let scalar = self.input.list(&mut self.scalars)?;
-        let r = radix::as_radix_2w(scalar, self.input.number()?);
-        self.output.value(r.number, &r.row);
+        self.output.line(radix::as_radix_16(scalar));
         Ok(())
     }
 
     // The scalar of a row.
-    fn read<F: Fn(&[i8], usize) -> ScalarBytes>(&mut self, call: F) -> Result<(), Malformed>
+    fn read<A: Answer, F: Fn(&[i8], usize) -> A>(&mut self, call: F) -> Result<(), Malformed>
         requires { F.IsAlwaysCallable call }
     {
         let row = self.input.list(&mut self.digits)?;
-        let r = call(row, self.input.number()?);
-        self.output.value(r.number, &r.bytes);
-        Ok(())
-    }
-
-    // A point's window of eight.
-    fn table<F: Fn(&[u64]) -> Window8>(&mut self, call: F) -> Result<(), Malformed>
-        requires { F.IsAlwaysCallable call }
-    {
-        let r = call(self.input.list(&mut self.points)?);
-        self.output.value(r.number, &r.limbs);
-        Ok(())
-    }
-
-    // A point's window of 64.
-    fn naf_table_8(&mut self) -> Result<(), Malformed> {
-        let r = window::naf_lookup_table8(self.input.list(&mut self.points)?);
-        self.output.value(r.number, &r.limbs);
+        let width = self.input.number()?;
+        self.output.line(call(row, width));
         Ok(())
     }
 
     // The entry of a window that a digit asks for.
-    fn select<F: Fn(&[u64], i8) -> Value>(&mut self, call: F) -> Result<(), Malformed>
+    fn select<A: Answer, F: Fn(&[u64], i8) -> A>(&mut self, call: F) -> Result<(), Malformed>
         requires { F.IsAlwaysCallable call }
     {
         let window = self.input.list(&mut self.points)?;
-        let r = call(window, i8::read(&mut self.input)?);
-        self.output.value(r.number, &r.value);
+        let digit = i8::read(&mut self.input)?;
+        self.output.line(call(window, digit));
         Ok(())
     }
 
@@ -160,8 +136,7 @@ impl Replay {
     fn variable_base(&mut self) -> Result<(), Malformed> {
         let point = self.input.list(&mut self.points)?;
         let scalar = self.input.list(&mut self.scalars)?;
-        self.output.sum(variable_base::mul(point, scalar));
-        self.output.end();
+        self.output.line(variable_base::mul(point, scalar));
         Ok(())
     }
 
@@ -170,8 +145,7 @@ impl Replay {
         let a = self.input.list(&mut self.scalars)?;
         let point = self.input.list(&mut self.points)?;
         let b = self.input.list(&mut self.more_scalars)?;
-        self.output.sum(vartime_double_base::mul(a, point, b));
-        self.output.end();
+        self.output.line(vartime_double_base::mul(a, point, b));
         Ok(())
     }
 
@@ -179,8 +153,7 @@ impl Replay {
     fn total(&mut self) -> Result<(), Malformed> {
         let digits = self.input.list(&mut self.digits)?;
         let windows = self.input.list(&mut self.windows)?;
-        self.output.sum(batch::total(digits, windows));
-        self.output.end();
+        self.output.line(batch::total(digits, windows));
         Ok(())
     }
 
@@ -191,15 +164,14 @@ impl Replay {
         let digits = self.input.list(&mut self.digits)?;
         let windows = self.input.list(&mut self.windows)?;
         let r = straus::multiscalar_mul(scalars, points, digits, windows);
-        self.output.sum(r);
-        self.output.both(digits, windows);
+        self.output.line_with_lent(r, digits, windows);
         Ok(())
     }
 
     // Optional points times scalars.
-    fn optional<F>(&mut self, call: F) -> Result<(), Malformed>
+    fn optional<A: Answer, F>(&mut self, call: F) -> Result<(), Malformed>
     where
-        F: Fn(&[u8], &[u64], &[u8], &mut [i8], &mut [u64]) -> Sum,
+        F: Fn(&[u8], &[u64], &[u8], &mut [i8], &mut [u64]) -> A,
         requires { F.IsAlwaysCallable call }
     {
         let scalars = self.input.list(&mut self.scalars)?;
@@ -208,8 +180,7 @@ impl Replay {
         let digits = self.input.list(&mut self.digits)?;
         let windows = self.input.list(&mut self.windows)?;
         let r = call(scalars, points, flags, digits, windows);
-        self.output.sum(r);
-        self.output.both(digits, windows);
+        self.output.line_with_lent(r, digits, windows);
         Ok(())
     }
 
@@ -225,8 +196,7 @@ impl Replay {
         let r = precomputed_straus::optional_mixed_multiscalar_mul(
             tables, statics, dynamics, points, flags, digits, windows,
         );
-        self.output.sum(r);
-        self.output.both(digits, windows);
+        self.output.line_with_lent(r, digits, windows);
         Ok(())
     }
 
@@ -235,7 +205,7 @@ impl Replay {
         let points = self.input.list(&mut self.points)?;
         let tables = self.input.list(&mut self.windows)?;
         let r = precomputed_straus::new(points, tables);
-        self.output.counted(r);
+        r.write_to(&mut self.output);
         self.output.lent(tables);
         self.output.end();
         Ok(())
@@ -249,8 +219,7 @@ impl Replay {
         let digits = self.input.list(&mut self.digits)?;
         let windows = self.input.list(&mut self.windows)?;
         let r = batch::prepare(scalars, points, flags, digits, windows);
-        self.output.counted(r);
-        self.output.both(digits, windows);
+        self.output.line_with_lent(r, digits, windows);
         Ok(())
     }
 
@@ -262,8 +231,7 @@ impl Replay {
         let scalar = self.input.list(&mut self.scalars)?;
         let point = self.input.point()?;
         let r = batch::set(digits, windows, slot, scalar, point);
-        self.output.counted(r);
-        self.output.both(digits, windows);
+        self.output.line_with_lent(r, digits, windows);
         Ok(())
     }
 
@@ -272,8 +240,7 @@ impl Replay {
         let digits = self.input.list(&mut self.digits)?;
         let windows = self.input.list(&mut self.windows)?;
         let r = batch::clear(digits, windows, self.input.number()?);
-        self.output.counted(r);
-        self.output.both(digits, windows);
+        self.output.line_with_lent(r, digits, windows);
         Ok(())
     }
 }
