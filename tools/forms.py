@@ -68,7 +68,7 @@ def shape(f):
 
 groups = collections.defaultdict(list)
 for f in functions:
-    if f[5].count('\n') >= 3:
+    if f[5].count('\n') >= 1:
         groups[shape(f)].append(f'{f[0]}: {f[1]}')
 twins = [' ~ '.join(g) for g in groups.values() if len(g) > 1]
 report('2 groups of functions that differ in names, types and numbers alone', twins)

@@ -1,4 +1,5 @@
-// Answers: what a done call carries, and the zeros that a refused one does.
+// Answers in numbers, for programs that print them: what a done call carries, and the zeros that a refused one does.
+// The three kinds have fields of their own, and any number may be handed in, so that these are six functions and take no `Refusal` (`one-answer-refused-value` and its kin).
 #![tactic(auto)]
 
 ghost use Rattle.std.specs.Prelude.{◌≡◌};

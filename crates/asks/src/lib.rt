@@ -1,4 +1,5 @@
 // What several calls ask of lent lists: the parts that refusals are put together from.
+// Scalars, points and flags are handed on one by one and not in a struct, and flags are bytes beside flat points: the calls that README.md names and the claims `one-asks-lists` and its kin have them so, after document 01.
 #![tactic(auto)]
 
 ghost use Rattle.std.specs.Prelude.{◌≡◌, [], ◌∷◌};
@@ -34,7 +35,12 @@ pub fn lists(scalars: &[u8], points: &[u64], flags: &[u8]) -> Result<(), Refusal
 }
 
 // 5 of working room: so many digits and limbs are needed, so many are lent.
-pub fn room(needed_digits: usize, digits: usize, needed_limbs: usize, limbs: usize) -> Result<(), Refusal>
+pub fn room(
+    needed_digits: usize,
+    digits: usize,
+    needed_limbs: usize,
+    limbs: usize,
+) -> Result<(), Refusal>
     ensures { as_number result ≡ first (enough_room needed_digits digits needed_limbs limbs) }
 {
     if (digits < needed_digits) | (limbs < needed_limbs) {
@@ -57,13 +63,11 @@ fn optional_at(points: &[u64], flags: &[u8], i: usize) -> Option<Element>
 }
 
 // 7: whether a point is present and at or above L.
+#[tactic(auto, unfolding(rules::specs::Lists::point_over))]
 fn point_over(point: Option<Element>) -> bool
     ensures { result ≡ point_over point }
 {
-    match point {
-        Some(e) => residue::over(e),
-        None => false,
-    }
+    point.is_some_and(|e| residue::over(e))
 }
 
 // 7: whether a flag is other than 0 and 1, or a point is so; the limbs of an absent one are not looked at.
@@ -80,7 +84,7 @@ fn bad_lists(points: &[u64], flags: &[u8]) -> bool
     false
 }
 
-// 8: each of the first n points is taken apart.
+// 8: each of the first n points is taken apart, by the `let .. else` that document 01 names.
 fn present(points: &[u64], flags: &[u8], n: usize) -> Result<(), Refusal>
     ensures { as_number result ≡ first ((absent_below points.now flags.now n, absent_point) ∷ []) }
 {

@@ -66,7 +66,7 @@ impl<'a, const LIMBS: usize> Rows<'a, LIMBS> {
     }
 }
 
-// From the highest of so many places down: one doubling, the dynamic rows, then the static ones.
+// From the highest of so many places down: one doubling, the dynamic rows, then the static ones. It is handed four slices, as the claim `one-columns-walk` has them.
 pub fn walk(
     digits: &[i8],
     windows: &[u64],

@@ -6,7 +6,7 @@ ghost use Rattle.rules.specs.Values.{limbs_of, element_at};
 
 use rules::Element;
 
-// The limbs of an element as an array, lowest first.
+// The limbs of an element as an array, lowest first; README.md names it, and a From beside it would be a second name.
 pub fn array(e: Element) -> [u64; 4]
     ensures { result ≡ limbs_of e }
 {

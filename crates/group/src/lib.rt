@@ -9,7 +9,7 @@ ghost use Rattle.rules.specs.Calls.{pair_refusal, group_add, group_subtract, gro
 
 use rules::{Element, Refusal};
 
-// What a call on one lent element answers.
+// What a call on one lent element asks, and the refusal where it is not so.
 pub fn point_refusal(p: &[u64]) -> Result<(), Refusal>
     ensures { as_number result ≡ point_refusal p.now }
 {
@@ -22,7 +22,7 @@ pub fn point_refusal(p: &[u64]) -> Result<(), Refusal>
     Ok(())
 }
 
-// What a call on two lent elements answers.
+// What a call on two lent elements asks, and the refusal where it is not so.
 fn pair_refusal(a: &[u64], b: &[u64]) -> Result<(), Refusal>
     ensures { as_number result ≡ pair_refusal a.now b.now }
 {

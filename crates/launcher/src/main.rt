@@ -21,7 +21,7 @@ fn scalars() -> [u8; ORDERS * SCALAR_BYTES] {
     list
 }
 
-// A small scalar is its lowest byte.
+// A small scalar is its lowest byte. `sheet` has the same, since this file is made to be copied and stands alone.
 fn scalar(k: u8) -> [u8; SCALAR_BYTES] {
     let mut bytes = [0u8; SCALAR_BYTES];
     bytes[0] = k;
@@ -45,15 +45,15 @@ impl fmt::Display for Number {
 // Why there is no total: preparing or an edit was refused, or the memory is no batch.
 #[derive(Clone, Copy)]
 enum NoTotal {
-    Refused(Refusal),
-    NoBatch(Refusal),
+    Refused,
+    NoBatch,
 }
 
 impl fmt::Display for NoTotal {
     fn fmt<W: fmt::Write>(&self, f: &mut fmt::Formatter<W>) -> fmt::Result {
         f.write_str(match self {
-            NoTotal::Refused(_) => "a call was refused",
-            NoTotal::NoBatch(_) => "this memory is no batch",
+            NoTotal::Refused => "a call was refused",
+            NoTotal::NoBatch => "this memory is no batch",
         })
     }
 }
@@ -67,8 +67,8 @@ fn done(rt: &impl Print, call: &str, answer: Result<Counts, Refusal>) -> Result<
 
 // The total is taken only where preparing and every edit were done.
 fn total(ready: Result<(), Refusal>, digits: &[i8], windows: &[u64]) -> Result<Number, NoTotal> {
-    ready.map_err(NoTotal::Refused)?;
-    let sum = batch::total(digits, windows).map_err(NoTotal::NoBatch)?;
+    ready.map_err(|_| NoTotal::Refused)?;
+    let sum = batch::total(digits, windows).map_err(|_| NoTotal::NoBatch)?;
     Ok(Number(flat::array(sum.element)))
 }
 

@@ -7,7 +7,7 @@ ghost use Rattle.rules.specs.Helpers.{row_places, row_of, laid_rows, window_entr
 
 use rules::{Counts, Element, Row, Window};
 
-// The places of a row. The kinds are arguments of `laid_rows` and `laid_windows` in `rules`, and are matched here and not in methods there, since what they run stands in crates above `rules`.
+// The places of a row. The kinds are arguments of `laid_rows` and `laid_windows` in `rules`, and are matched here and not in methods there: what two of these run stands in crates above `rules`, and a method would have to be public.
 #[tactic(auto, unfolding(rules::specs::Helpers::row_places))]
 fn places(kind: Row) -> usize
     ensures { result ≡ row_places kind }
@@ -29,7 +29,7 @@ fn row(scalar: &[u8], kind: Row, part: &mut [i8])
     }
 }
 
-// The rows of the first n scalars that there are, as far as the room goes.
+// The rows of the first n scalars that there are, as far as the room goes. The parts are cut by index: of parts that `chunks_exact_mut` lends a proof knows the lengths alone.
 pub fn rows(scalars: &[u8], n: usize, kind: Row, digits: &mut [i8])
     ensures { digits.new ≡ laid_rows kind scalars.now n digits.old }
 {
@@ -65,7 +65,7 @@ fn window(p: Element, kind: Window, part: &mut [u64]) -> Counts
     }
 }
 
-// The windows of the first n points that there are, as far as the room goes.
+// The windows of the first n points that there are, as far as the room goes, in parts as in `rows`.
 pub fn windows(points: &[u64], n: usize, kind: Window, limbs: &mut [u64]) -> Counts
     ensures { made result limbs.new ≡ laid_windows kind points.now n limbs.old }
 {

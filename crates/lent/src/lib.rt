@@ -33,7 +33,7 @@ pub fn too_many(len: usize, unit: usize, limit: usize) -> bool
     limit < len / unit
 }
 
-// The smaller of two counts.
+// The smaller of two counts: the library's `min`, under the name of the claim `one-lent-smaller`.
 pub fn smaller(a: usize, b: usize) -> usize
     ensures { result ≡ min a b }
 {

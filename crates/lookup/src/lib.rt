@@ -39,7 +39,7 @@ pub fn looked_up(window: &[u64], d: i8) -> Element
     by_sign(d, passed(window, digit::magnitude(d)))
 }
 
-// What a lookup in a window of n entries answers: every entry is looked at.
+// What a lookup in a window of n entries asks, and the refusal where it is not so: every entry is looked at.
 fn lookup_refusal(window: &[u64], n: usize, outside: bool) -> Result<(), Refusal>
     requires { n ≤ 64 }
     ensures { as_number result ≡ lookup_refusal n outside window.now }
@@ -72,7 +72,7 @@ fn select_naf(window: &[u64], d: i8, n: usize) -> Result<Element, Refusal>
     Ok(by_sign(d, flat::element_at(window, digit::odd_entry(d))))
 }
 
-// NAF lookup in a lent window of width 5.
+// NAF lookup in a lent window of width 5. README.md names both widths.
 pub fn select_naf5(window: &[u64], d: i8) -> Result<Element, Refusal>
     ensures { as_value result ≡ select_naf 8 window.now d }
 {

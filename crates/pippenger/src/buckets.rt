@@ -1,4 +1,5 @@
 // Buckets of four limbs each: how many a width needs, a point put into one by its digit, and their sum.
+// The buckets are a slice that is lent on from call to call, and their count stands beside it: a struct of both would hold the same bound and lend the slice on through a field.
 ghost use Rattle.std.specs.Prelude.{◌≡◌, ◌+◌, ◌-◌, ◌*◌, ◌^◌, ◌<◌, ◌≤◌, length, nat_abs};
 ghost use Rattle.rules.specs.Values.{element_at};
 ghost use Rattle.rules.specs.Group.{elements};
@@ -38,7 +39,6 @@ fn store(limbs: &mut [u64], k: usize, e: Element)
 }
 
 // A point into bucket |d| - 1 by its row's digit d at place j: added, or taken away where d is negative. Additions made.
-// It answers its additions, 0 or 1, beside the change: with a struct of buckets and count each contract would speak of a field of a field.
 pub(crate) fn put(row: &[i8], j: usize, p: Element, buckets: &mut [u64]) -> u64
     requires { (j < length row.now) × (4 * nat_abs (digit row.now j) ≤ length buckets.old) }
     ensures { (result ≡ nonzero (digit row.now j)) × (buckets.new ≡ put_flat (digit row.now j) p buckets.old) }

@@ -10,7 +10,7 @@ ghost use Rattle.pippenger.specs.Flat.{put_rows};
 use crate::buckets::{Summed, buckets_count, put, sum_buckets};
 use rules::Walk;
 
-// Rows of 64 digits, m of them in lent room that may be longer, and a point for each.
+// Rows of 64 digits, m of them in lent room that may be longer, and a point for each. The count m stands beside the lists, as in `Placed` and `Walkable` of `laws`.
 #[derive(Clone, Copy)]
 pub(crate) struct Rows<'a> {
     pub(crate) digits: &'a [i8],

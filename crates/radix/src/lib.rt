@@ -102,7 +102,7 @@ pub fn radix_row(scalar: &[u8], w: usize) -> [i8; 64]
     }
 }
 
-// The radix 2^w row of a scalar: a question and a row, as `scalar::non_adjacent_form` is of the other kind.
+// The radix 2^w row of a scalar. `scalar::non_adjacent_form` has the same two lines: one function that is handed the row's maker would be no shorter.
 pub fn as_radix_2w(scalar: &[u8], w: usize) -> Result<[i8; 64], Refusal>
     ensures { as_row 64 result ≡ radix_of scalar.now w }
 {

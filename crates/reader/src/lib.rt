@@ -49,6 +49,7 @@ fn with_digit(q: Element, d: i8) -> Element
     }
 }
 
+// By index, since over the digits from the last the invariant would have to speak of those already yielded.
 // What a row sums to modulo 2^256, each digit weighing 2^w times the one below it.
 fn row_sum(row: &[i8], w: usize) -> Element
     ensures { Says w row.now result }
@@ -68,7 +69,7 @@ fn row_bytes(row: &[i8], w: usize) -> [u8; 32]
     words::bytes(&limbs)
 }
 
-// What a row of the wrong length or at the wrong width is answered.
+// What a reader asks of its row and width, and the refusal where it is not so. The test of the width is that of `recode_refusal`, in two lines.
 fn shape_refusal(row: &[i8], long: usize, low: usize, w: usize) -> Result<(), Refusal>
     ensures { as_number result ≡ shape_refusal long low row.now w }
 {

@@ -65,18 +65,18 @@ impl Replay {
             Call::VariableBase => self.variable_base(),
             Call::VartimeDoubleBase => self.vartime_double_base(),
             Call::Straus => self.straus(),
-            Call::OptionalStraus => self.optional(straus::optional_multiscalar_mul),
+            Call::OptionalStraus => self.flagged(straus::optional_multiscalar_mul),
             Call::NewTables => self.new_tables(),
             Call::MixedStraus => self.mixed_straus(),
-            Call::Pippenger => self.optional(pippenger::optional_multiscalar_mul),
-            Call::Prepare => self.prepare(),
+            Call::Pippenger => self.flagged(pippenger::optional_multiscalar_mul),
+            Call::Prepare => self.flagged(batch::prepare),
             Call::Set => self.set(),
             Call::Clear => self.clear(),
             Call::Total => self.total(),
         }
     }
 
-    // An element of two.
+    // A call on two elements.
     fn of_two<A: Answer, F: Fn(&[u64], &[u64]) -> A>(&mut self, call: F) -> Result<(), Malformed>
         requires { F.IsAlwaysCallable call }
     {
@@ -86,7 +86,7 @@ impl Replay {
         Ok(())
     }
 
-    // An element or a window of one.
+    // A call on one element, which gives an element or a window.
     fn of_one<A: Answer, F: Fn(&[u64]) -> A>(&mut self, call: F) -> Result<(), Malformed>
         requires { F.IsAlwaysCallable call }
     {
@@ -140,7 +140,7 @@ impl Replay {
         Ok(())
     }
 
-    // A point and the base point, each times a scalar.
+    // A point and the basepoint, each times a scalar.
     fn vartime_double_base(&mut self) -> Result<(), Malformed> {
         let a = self.input.list(&mut self.scalars)?;
         let point = self.input.list(&mut self.points)?;
@@ -157,7 +157,7 @@ impl Replay {
         Ok(())
     }
 
-    // Points times scalars, in constant time.
+    // Points times scalars, radix 16.
     fn straus(&mut self) -> Result<(), Malformed> {
         let scalars = self.input.list(&mut self.scalars)?;
         let points = self.input.list(&mut self.points)?;
@@ -168,8 +168,8 @@ impl Replay {
         Ok(())
     }
 
-    // Optional points times scalars.
-    fn optional<A: Answer, F>(&mut self, call: F) -> Result<(), Malformed>
+    // A call on scalars, points and flags: a sum of optional points, or a batch that is prepared.
+    fn flagged<A: Answer, F>(&mut self, call: F) -> Result<(), Malformed>
     where
         F: Fn(&[u8], &[u64], &[u8], &mut [i8], &mut [u64]) -> A,
         requires { F.IsAlwaysCallable call }
@@ -208,18 +208,6 @@ impl Replay {
         r.write_to(&mut self.output);
         self.output.lent(tables);
         self.output.end();
-        Ok(())
-    }
-
-    // A batch, prepared.
-    fn prepare(&mut self) -> Result<(), Malformed> {
-        let scalars = self.input.list(&mut self.scalars)?;
-        let points = self.input.list(&mut self.points)?;
-        let flags = self.input.list(&mut self.flags)?;
-        let digits = self.input.list(&mut self.digits)?;
-        let windows = self.input.list(&mut self.windows)?;
-        let r = batch::prepare(scalars, points, flags, digits, windows);
-        self.output.line_with_lent(r, digits, windows);
         Ok(())
     }
 

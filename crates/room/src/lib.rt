@@ -9,7 +9,7 @@ use lent::smaller;
 
 pub mod parts;
 
-// The given zero in the first n places that there are: of digits, limbs, or any other list.
+// The given zero in the first n places that there are: of digits, limbs, or any other list. The library's `fill` would ask that a copy cannot fail, and a public function asks nothing.
 pub fn clear<T: Copy>(list: &mut [T], zero: T, n: usize)
     ensures { list.new ≡ cleared zero n list.old }
 {

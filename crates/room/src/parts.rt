@@ -6,13 +6,7 @@ ghost use Rattle.rules.specs.Parts.{first_units};
 fn places(unit: usize, n: usize, len: usize) -> usize
     ensures { result ≡ min (unit * n) len }
 {
-    if unit == 0 {
-        return 0;
-    }
-    if n <= len / unit {
-        return n * unit;
-    }
-    len
+    unit.saturating_mul(n).min(len)
 }
 
 // Lent memory that a call reads: scalars, flags in units of one, points, or static tables in units of 256 limbs.

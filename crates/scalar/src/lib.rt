@@ -9,7 +9,7 @@ ghost use Rattle.scalar.specs.Wrap.{wrapped};
 
 use rules::Refusal;
 
-// A window narrowed to eight bits with wrap, less the width narrowed to eight bits with wrap.
+// A window narrowed to eight bits with wrap, less the width narrowed to eight bits with wrap: the form that document 01 names.
 #[tactic(auto, unfolding(crate::specs::Wrap::wrapped))]
 fn wrapping_digit(window: u64, width: u64) -> i8
     ensures { result ≡ wrapped window width }

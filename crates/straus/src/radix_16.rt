@@ -9,7 +9,12 @@ ghost use Rattle.straus.specs.Radix.{radix_rows, with_entry, with_column, radix_
 use rules::{Refusal, Walk};
 
 // What the call asks, and the refusal where it is not so.
-pub(crate) fn refusal(scalars: &[u8], points: &[u64], digits: usize, limbs: usize) -> Result<(), Refusal>
+pub(crate) fn refusal(
+    scalars: &[u8],
+    points: &[u64],
+    digits: usize,
+    limbs: usize,
+) -> Result<(), Refusal>
     ensures { as_number result ≡ radix_straus_refusal scalars.now points.now digits limbs }
 {
     asks::plain_lists(scalars, points)?;
@@ -32,6 +37,7 @@ pub(crate) fn added(w: Walk, row: &[i8], window: &[u64], j: usize) -> Walk
 }
 
 // w with place j of every row, each handed on as a part with its window's part.
+// The loop is that of `columns::Rows::column` at 64 places and with another step: one for both would be handed the step and its law, and be no plainer.
 pub(crate) fn column(w: Walk, digits: &[i8], limbs: &[u64], j: usize) -> Walk
     requires place { j < 64 }
     requires count { w.additions + radix_rows digits.now limbs.now < 2 ^ 64 }
