@@ -53,7 +53,7 @@ pub fn make_successive(p: Element, part: &mut [u64]) -> Counts
     make::<8>(p, p, 0, part)
 }
 
-// 1P, 3P, .. with N entries, into their part of lent memory.
+// 1P, 3P, .. with N entries, into their part of lent memory. The public names below are its instances: it asks that N is in range, and a public function asks nothing.
 #[tactic(auto, unfolding(rules::specs::Windows::odd, rules::specs::Helpers::made_odd_in))]
 fn make_odd<const N: usize>(p: Element, part: &mut [u64]) -> Counts
     requires { (1 ≤ N) × (N ≤ 64) }
