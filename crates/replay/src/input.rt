@@ -8,7 +8,7 @@ use std::io::{Read, Stdin};
 #[derive(Clone, Copy)]
 pub(crate) struct Malformed;
 
-// Standard input, the buffer that it fills, the place of the next byte there, and how many bytes it has.
+// Standard input, the buffer that it fills, the place of the next byte there, and how many bytes it has. Memory is fixed here, and the library's buffered reader takes an allocator.
 #[derive(Drop)]
 pub(crate) struct Input {
     from: Stdin,

@@ -9,7 +9,7 @@ use std::fmt;
 use std::fmt::Write as _;
 use std::io::{Stdout, Write};
 
-// Standard output, the buffer in which bytes wait for it, and how many do.
+// Standard output, the buffer in which bytes wait for it, and how many do: fixed memory, as in `Input`.
 #[derive(Drop)]
 pub(crate) struct Output {
     to: Stdout,
@@ -42,7 +42,7 @@ impl<T: Item> fmt::Display for Hex<'_, T> {
     }
 }
 
-// An item's bytes likewise.
+// An item's bytes, two hexadecimal digits each.
 fn bytes<T: Item, W: fmt::Write>(x: T, f: &mut fmt::Formatter<W>) -> fmt::Result {
     for byte in x.bytes().as_slice() {
         write!(f, "{byte:02x}")?;

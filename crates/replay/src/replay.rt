@@ -95,7 +95,7 @@ impl Replay {
         Ok(())
     }
 
-    // A scalar's row at a width.
+    // A scalar's row at a width. `read` is the same from the other memory: one for both would be handed which.
     fn recode<A: Answer, F: Fn(&[u8], usize) -> A>(&mut self, call: F) -> Result<(), Malformed>
         requires { F.IsAlwaysCallable call }
     {

@@ -42,7 +42,7 @@ pub fn over(a: Element) -> bool
     limbs::over(order(), a)
 }
 
-// The sum of two elements, for any limbs.
+// The sum of two elements, for any limbs. It and `minus` are the calls of `limbs` at L, one each, under the names that the group's calls cite.
 #[tactic(auto, using(crate::proofs::Reduction::order_is))]
 pub fn plus(a: Element, b: Element) -> Element
     ensures { result ≡ added a b }

@@ -9,7 +9,7 @@ ghost use Rattle.variable_base.specs.Walked.{walked_down};
 
 use rules::{Refusal, Walk};
 
-// The last digit's entry, and from the place below it down four doublings and that digit's entry.
+// The last digit's entry, and from the place below it down four doublings and that digit's entry; by index, as in `reader::row_sum`.
 fn walk(row: [i8; 64], window: &[u64]) -> Walk
     ensures { result ≡ walked_down row window.now }
 {
