@@ -49,6 +49,7 @@ pub fn room(
     Ok(())
 }
 
+// By a test of the length and an index: over `get` it was tried, and the proof did not close.
 // Point i by its flag: absent where that is 0, and past the flags' end.
 fn optional_at(points: &[u64], flags: &[u8], i: usize) -> Option<Element>
     ensures { result ≡ optional_at points.now flags.now i }

@@ -94,11 +94,5 @@ pub fn total(digits: &[i8], windows: &[u64]) -> Result<Walk, Refusal>
     ensures { as_sum result ≡ total_of (memory_of digits.now windows.now) }
 {
     crate::refusals::total_refusal(digits, windows)?;
-    Ok(columns::walk(
-        digits,
-        windows,
-        &digits[..0],
-        &windows[..0],
-        SLOT_DIGITS,
-    ))
+    Ok(columns::walk(digits, windows, &digits[..0], &windows[..0], SLOT_DIGITS))
 }

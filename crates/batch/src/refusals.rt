@@ -20,6 +20,7 @@ pub(crate) fn memory(digits: usize, windows: usize) -> Result<(), Refusal>
     Ok(())
 }
 
+// The lists are handed on one by one, as to `asks`, where the reason stands.
 // What preparing asks, and the refusal where it is not so.
 pub(crate) fn prepare_refusal(
     scalars: &[u8],
@@ -43,7 +44,12 @@ pub(crate) fn prepare_refusal(
 }
 
 // What an edit asks before it looks at the point.
-pub(crate) fn set_refusal(digits: usize, windows: usize, slot: usize, scalar: &[u8]) -> Result<(), Refusal>
+pub(crate) fn set_refusal(
+    digits: usize,
+    windows: usize,
+    slot: usize,
+    scalar: &[u8],
+) -> Result<(), Refusal>
     ensures { as_number result ≡ edge_refusal digits windows slot scalar.now }
 {
     if scalar.len() != SCALAR_BYTES {

@@ -29,7 +29,7 @@ fn row(scalar: &[u8], kind: Row, part: &mut [i8])
     }
 }
 
-// The rows of the first n scalars that there are, as far as the room goes. The parts are cut by index: of parts that `chunks_exact_mut` lends a proof knows the lengths alone.
+// The rows of the first n scalars that there are, as far as the room goes. The parts are cut by index: after a loop over parts that `chunks_exact_mut` lends nothing is known of the list.
 pub fn rows(scalars: &[u8], n: usize, kind: Row, digits: &mut [i8])
     ensures { digits.new ≡ laid_rows kind scalars.now n digits.old }
 {

@@ -25,6 +25,7 @@ fn width(scalars: usize) -> usize
     }
 }
 
+// The lists are handed on one by one, as to `asks`, where the reason stands.
 // What the call asks, and the refusal where it is not so.
 fn refusal(
     scalars: &[u8],

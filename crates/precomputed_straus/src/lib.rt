@@ -25,6 +25,7 @@ pub fn new(points: &[u64], tables: &mut [u64]) -> Result<Counts, Refusal>
     Ok(laying::windows(points, n, Window::Odd64, &mut *tables))
 }
 
+// Seven parameters, since README.md names them; inside, the lists travel as `Mixed`.
 // The sum over static rows on their tables as they stand, and over dynamic pairs.
 pub fn optional_mixed_multiscalar_mul(
     tables: &[u64],

@@ -63,6 +63,7 @@ impl<'a> Mixed<'a> {
         self.contents()
     }
 
+    // Counts of both parts are added here, as `rules::Walk` says.
     // The walk over dynamic pairs and static rows, which are laid into room of just their length.
     pub(crate) fn walk(self, digits: &mut [i8], limbs: &mut [u64]) -> Walk
         requires { Ready self.tables.now self.static_scalars.now self.scalars.now self.points.now (length digits.old) (length limbs.old) }

@@ -49,7 +49,7 @@ fn with_digit(q: Element, d: i8) -> Element
     }
 }
 
-// By index, since over the digits from the last the invariant would have to speak of those already yielded.
+// By index: over `iter().rev()` it was tried, and the proof did not close.
 // What a row sums to modulo 2^256, each digit weighing 2^w times the one below it.
 fn row_sum(row: &[i8], w: usize) -> Element
     ensures { Says w row.now result }
@@ -69,7 +69,7 @@ fn row_bytes(row: &[i8], w: usize) -> [u8; 32]
     words::bytes(&limbs)
 }
 
-// What a reader asks of its row and width, and the refusal where it is not so. The test of the width is that of `recode_refusal`, in two lines.
+// What a reader asks of its row and width, and the refusal where it is not so. The tests of the width are those of `recode_refusal`.
 fn shape_refusal(row: &[i8], long: usize, low: usize, w: usize) -> Result<(), Refusal>
     ensures { as_number result ≡ shape_refusal long low row.now w }
 {

@@ -21,6 +21,7 @@ pub fn order() -> Element
     }
 }
 
+// A function beside `order`, as the claim `one-residue-identity` has it.
 // The identity, 0.
 #[tactic(auto, unfolding(rules::specs::Values::element_of))]
 pub fn identity() -> Element

@@ -9,6 +9,7 @@ fn places(unit: usize, n: usize, len: usize) -> usize
     unit.saturating_mul(n).min(len)
 }
 
+// The list, its unit and the count are three arguments, as README.md names them; so with `first_units_mut`.
 // Lent memory that a call reads: scalars, flags in units of one, points, or static tables in units of 256 limbs.
 pub fn first_units<T>(list: &[T], unit: usize, n: usize) -> &[T]
     ensures { result.now ≡ first_units unit n list.now }

@@ -10,6 +10,7 @@ use rules::{Refusal, Row, Walk, Window};
 pub(crate) mod naf;
 pub(crate) mod radix_16;
 
+// Counts of both parts are added here and in NAF Straus, as `rules::Walk` says.
 // Radix-16 Straus.
 pub fn multiscalar_mul(
     scalars: &[u8],

@@ -5,6 +5,7 @@ ghost use Rattle.rules.specs.Engines.{naf_straus_refusal};
 
 use rules::Refusal;
 
+// The lists are handed on one by one, as to `asks`, where the reason stands.
 // What the call asks, and the refusal where it is not so.
 pub(crate) fn refusal(
     scalars: &[u8],

@@ -9,7 +9,7 @@ ghost use Rattle.variable_base.specs.Walked.{walked_down};
 
 use rules::{Refusal, Walk};
 
-// The last digit's entry, and from the place below it down four doublings and that digit's entry; by index, as in `reader::row_sum`.
+// The last digit's entry, and from the place below it down four doublings and that digit's entry; by index, since over the digits from the last the invariant would have to speak of those already yielded.
 fn walk(row: [i8; 64], window: &[u64]) -> Walk
     ensures { result ≡ walked_down row window.now }
 {
@@ -40,6 +40,7 @@ fn refusal(point: &[u64], scalar: &[u8]) -> Result<(), Refusal>
     asks::plain_contents(scalar, point)
 }
 
+// Counts of both parts are added here, as `rules::Walk` says.
 // Single base.
 pub fn mul(point: &[u64], scalar: &[u8]) -> Result<Walk, Refusal>
     ensures { as_sum result ≡ single point.now scalar.now }

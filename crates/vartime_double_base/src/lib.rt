@@ -44,6 +44,7 @@ fn refusal(a: &[u8], point: &[u64], b: &[u8]) -> Result<(), Refusal>
     asks::plain_contents(b, point)
 }
 
+// Counts of both parts are added here, as `rules::Walk` says.
 // Double base.
 pub fn mul(a: &[u8], point: &[u64], b: &[u8]) -> Result<Walk, Refusal>
     ensures { as_sum result ≡ double a.now point.now b.now }

@@ -12,7 +12,7 @@ ghost use Rattle.rules.specs.Helpers.{elements_flat, made, made_successive, made
 
 use rules::{Counts, Element, Refusal};
 
-// N entries from p on, each from the one before by adding s. The additions are counted where they are made, beside the array, as document 01 has a result's counts. That N is at most 64 stands in each of these contracts, since a const parameter holds no invariant.
+// N entries from p on, each from the one before by adding s. The additions are counted where they are made, beside the array: a struct of both would be taken apart at once. That N is at most 64 stands in each of these contracts, since a const parameter holds no invariant.
 fn stepped<const N: usize>(p: Element, s: Element, additions: &mut u64) -> [[u64; 4]; N]
     requires size { (1 ≤ N) × (N ≤ 64) }
     requires none { additions.old ≡ 0 }
@@ -63,7 +63,8 @@ fn make_odd<const N: usize>(p: Element, part: &mut [u64]) -> Counts
     make::<N>(p, s, 1, part)
 }
 
-// 1P, 3P, .. 15P into their part of lent memory. Public functions are of one size each: over N they would ask that it is at most 64.
+// Public functions are of one size each: over N they would ask that it is at most 64.
+// 1P, 3P, .. 15P into their part of lent memory.
 pub fn make_odd8(p: Element, part: &mut [u64]) -> Counts
     ensures { made result part.new ≡ made_odd 8 p part.old }
 {
@@ -99,6 +100,7 @@ fn naf_lookup_table<const N: usize, const M: usize>(point: &[u64]) -> Result<[u6
     Ok(limbs)
 }
 
+// README.md names both widths; each is one line over `naf_lookup_table`.
 // The NAF window of width 5 of a lent point.
 #[tactic(auto, unfolding(rules::specs::Windows::naf_lookup_table5))]
 pub fn naf_lookup_table5(point: &[u64]) -> Result<[u64; 32], Refusal>
