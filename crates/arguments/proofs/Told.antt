@@ -2,11 +2,10 @@
 use mathlib.Core.Path.{◌≡◌, refl, sym, ap, ◌∙◌}
 use mathlib.Core.Bool.{cond}
 use mathlib.Core.List.{List}
-use Prim.Native.Nat.{ℕ}
-use native.Mathlib.Omega.{arith}
+use Prim.Native.Nat.{ℕ, ◌*◌}
 use lib.Dec.{eqb}
 use lib.ListN.{get_or}
-use lib.IntN.{ℤ}
+use lib.IntN.{ℤ, pos}
 use Rattle.std.specs.Prelude.{Result, Ok, Err}
 use Rattle.rules.specs.declared.Refusal.{Refusal}
 use Rattle.rules.specs.declared.Refusal.TheVariants.{NotWhole, TooMany, BadWidth, NoSlot, BadRoom, BigScalar, BadPoint, AbsentPoint, Unequal, BadDigit}
@@ -20,7 +19,7 @@ use Rattle.rules.specs.Answers.{RowAnswer, ScalarBytes, WindowAnswer}
 use Rattle.rules.specs.Values.{limbs_of}
 use Rattle.rules.specs.Numbers.{number_of, as_number, valued, counted, summed}
 use Rattle.rules.specs.Helpers.{value_done, counted_done, sum_done}
-use Rattle.rules.specs.Results.{as_value, as_counted, as_sum, as_row, as_scalar_bytes, as_window}
+use Rattle.rules.specs.Results.{as_value, as_counted, as_sum, as_list, as_row, as_scalar_bytes, as_window}
 use Rattle.laws.specs.Results.{refusal-not-0}
 
 -- the refusal of a number
@@ -54,6 +53,12 @@ told form number done refused carried (Err r) (Err s) e = ap Err (number-told r 
 pub question-told : {A : Type 0} (one : (x y : A) → x ≡ y) (a b : Result A Refusal) → as_number a ≡ as_number b → a ≡ b
 unfolding as_number
 question-told one a b e = told as_number (λ n. n) (λ x. refl) (λ r. refl) (λ x y _. one x y) a b e
+
+pub asked-told : (a b : Result (Unit {0}) Refusal) → as_number a ≡ as_number b → a ≡ b
+asked-told = question-told one
+  where
+    one : (x y : Unit {0}) → x ≡ y
+    one x y = refl
 
 -- an element by its limbs
 element-told : (x y : Element) → limbs_of x ≡ limbs_of y → x ≡ y
@@ -100,3 +105,19 @@ bytes-told a b e = told as_scalar_bytes (λ (v : ScalarBytes). v.number) (λ x. 
 pub window-told : (n : ℕ) (a b : Result (List ℕ) Refusal) → as_window n a ≡ as_window n b → a ≡ b
 unfolding as_window
 window-told n a b e = told (as_window n) (λ (v : WindowAnswer n). v.number) (λ x. refl) (λ r. refl) (λ x y q. ap (λ (v : WindowAnswer n). v.limbs) q) a b e
+
+-- the number and the list of a row, of bytes and of a window are the fields of its form
+pub row-listed : (n : ℕ) (r : Result (List ℤ) Refusal) → ◌≡◌ {A = RowAnswer n} (as_row n r) (record { number = as_number r; row = as_list n (pos 0) r })
+unfolding as_row as_number as_list
+row-listed n (Ok l) = refl
+row-listed n (Err r) = refl
+
+pub bytes-listed : (r : Result (List ℕ) Refusal) → ◌≡◌ {A = ScalarBytes} (as_scalar_bytes r) (record { number = as_number r; bytes = as_list 32 0 r })
+unfolding as_scalar_bytes as_number as_list
+bytes-listed (Ok l) = refl
+bytes-listed (Err r) = refl
+
+pub window-listed : (n : ℕ) (r : Result (List ℕ) Refusal) → ◌≡◌ {A = WindowAnswer n} (as_window n r) (record { number = as_number r; limbs = as_list (4 * n) 0 r })
+unfolding as_window as_number as_list
+window-listed n (Ok l) = refl
+window-listed n (Err r) = refl

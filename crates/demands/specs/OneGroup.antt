@@ -1,8 +1,9 @@
 -- What each contract says, and so one result: digits, limbs, elements of flat limbs, words, bits, answers, residues, the calls of the group, lent lists, what is asked of them, and room.
-use Rattle.std.specs.Prelude.{◌%◌, ◌*◌, ◌/◌, ◌^◌, min, leb, nat_abs, get_or, take}
+use Rattle.std.specs.Prelude.{ℕ, ◌%◌, ◌*◌, ◌/◌, ◌^◌, min, leb, nat_abs, get_or, take}
 use denote.RattleType.{RattleType}
 use denote.Param.Laws.{Laws, IsCopy}
-use mir.Syntax.{Dict}
+use mir.Syntax.{Dict, w64}
+use mir.Val.{Fits}
 use Rattle.std.specs.declared.clone.Clone.{Ghosts}
 use Rattle.rules.specs.Asks.{enough_room, flagged_contents, flagged_lists, plain_contents, plain_lists}
 use Rattle.rules.specs.Calls.{group_add, group_double, group_negate, group_subtract}
@@ -16,7 +17,7 @@ use Rattle.rules.specs.Parts.{first_units}
 use Rattle.rules.specs.Rows.{recode_refusal}
 use Rattle.rules.specs.Values.{element_at, element_of, limb, limbs_of, number, places, point_at, value_of}
 use Rattle.rules.specs.Windows.{any_over, point_refusal}
-use Rattle.rules.specs.Results.{as_value}
+use Rattle.rules.specs.Results.{as_value, as_counted, as_sum, as_list}
 use Rattle.rules.specs.Claims.{Says}
 use Rattle.arguments.proofs.Contracts.{says}
 
@@ -98,6 +99,22 @@ one-answer-refused-counted = says
 
 pub one-answer-refused-sum : Says Rattle.answer.proofs.refused_sum.Reads.Post (λ κ (number, _). summed number 0 0 0) (λ κ r _. r)
 one-answer-refused-sum = says
+
+pub one-answer-of-element : Says Rattle.answer.proofs.of_element.Reads.Post (λ κ (r, _). as_value r) (λ κ r _. r)
+one-answer-of-element = says
+
+pub one-answer-of-counts : Says Rattle.answer.proofs.of_counts.Reads.Post (λ κ (r, _). as_counted r) (λ κ r _. r)
+one-answer-of-counts = says
+
+pub one-answer-of-sum : Says Rattle.answer.proofs.of_sum.Reads.Post (λ κ (r, _). as_sum r) (λ κ r _. r)
+one-answer-of-sum = says
+
+pub one-answer-number : (T : RattleType) (L : Laws T) → Says (Rattle.answer.proofs.number.Reads.Post T L) (λ κ (r, _). as_number r.now) (λ κ r _. r)
+one-answer-number T L = says
+
+pub one-answer-list : (T : RattleType) (N : ℕ) (L : Laws T) (F : Fits w64 N) (C : IsCopy T) (G : Ghosts T.Denot) (D : Dict)
+    → Says (Rattle.answer.proofs.list.Reads.Post T N L F C G D) (λ κ (r, (zero, _)). as_list N zero r) (λ κ r _. r)
+one-answer-list T N L F C G D = says
 
 -- residue
 pub one-residue-order : Says Rattle.residue.proofs.order.Reads.Post (λ κ _. element_of L) (λ κ r _. r)

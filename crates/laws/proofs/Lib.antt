@@ -2,6 +2,7 @@ pub mod Room
 pub mod Laid
 pub mod Puts
 pub mod Laying
+pub mod Stepping
 pub mod Steps
 pub mod BucketLoops
 pub mod Numerals

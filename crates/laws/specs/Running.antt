@@ -91,6 +91,14 @@ module _ {A : Type 0} (o : Ops A) (read : List ℕ → ℕ → A) (ds : List ℤ
   abbrev window_part : ℕ → List ℕ
   window_part i = take (n * i + n - n * i) (drop (n * i) ws)
 
+  row_is : (i : ℕ) → digit (row_part i) j ≡ slot_digit ds i j
+  unfolding slot_digit
+  row_is i = ap (λ (r : List ℤ). digit r j) (part-is 256 i ds)
+
+  window-is : (i k : ℕ) → read (window_part i) k ≡ entry_in read n ws i k
+  unfolding entry_in
+  window-is i k = ap (λ (w : List ℕ). read w k) (part-is n i ws)
+
   pub passed-more : (i : ℕ) (r r' : Run A) → r ≡ passed o ds (entry_in read n ws) i j q
       → r' ≡ onward o (digit (row_part i) j) (read (window_part i) (odd_entry (digit (row_part i) j))) r → r' ≡ passed o ds (entry_in read n ws) (i + 1) j q
   passed-more i r r' e h = passed-row o read ds ws n j q i (row_part i) (part-is 256 i ds) r e (window_part i) (part-is n i ws) r' h

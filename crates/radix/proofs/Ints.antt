@@ -45,8 +45,8 @@ module _ (d : ℤ) (v : ℕ) (is : d ≡ pos v) (le : v ≤ 16) where
       ∙ ap (λ z. to_z w8 (of_z w8 z)) s
       ∙ to_z-of_z (sub-fits v c (omega arith) (omega arith))
 
-  -- with the carry k into it
-  pub more-is : (k : ℤ) (b : ℕ) → k ≡ pos b → b ≤ 1 → to_z w8 (of_z w8 (to_z w8 (of_z w8 d) +ℤ to_z w8 (of_z w8 k))) ≡ pos (v + b)
+  -- with a carry k into it, from 0 to 16
+  pub more-is : (k : ℤ) (b : ℕ) → k ≡ pos b → b ≤ 16 → to_z w8 (of_z w8 (to_z w8 (of_z w8 d) +ℤ to_z w8 (of_z w8 k))) ≡ pos (v + b)
   more-is k b e l =
       ap (λ z. to_z w8 (of_z w8 (z +ℤ to_z w8 (of_z w8 k)))) kept
       ∙ ap (λ z. to_z w8 (of_z w8 (pos v +ℤ z))) (ap (λ z. to_z w8 (of_z w8 z)) e ∙ to_z-of_z {w = w8} {z = pos b} (record { sfits = omega arith }))

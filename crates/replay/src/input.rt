@@ -84,19 +84,18 @@ impl Input {
         Ok(usize::from_le_bytes(self.bytes()?))
     }
 
-    // An optional point: a flag, 0 or 1, and four limbs in either case.
+    // An optional point: a flag, 0 or 1, and four limbs in either case. Another flag ends the case before a limb is read.
     pub(crate) fn point(&mut self) -> Result<Option<Element>, Malformed> {
         let flag = self.byte()?;
+        if flag > 1 {
+            return Err(Malformed);
+        }
         let point = Element {
             l0: u64::from_le_bytes(self.bytes()?),
             l1: u64::from_le_bytes(self.bytes()?),
             l2: u64::from_le_bytes(self.bytes()?),
             l3: u64::from_le_bytes(self.bytes()?),
         };
-        match flag {
-            0 => Ok(None),
-            1 => Ok(Some(point)),
-            _ => Err(Malformed),
-        }
+        Ok(if flag == 0 { None } else { Some(point) })
     }
 }

@@ -1,5 +1,5 @@
 // The lines on standard output: texts, numbers and lists through a buffer.
-ghost use Rattle.std.specs.Prelude.{◌≡◌, ◌≤◌};
+ghost use Rattle.std.specs.Prelude.{◌≡◌, ◌<◌, ◌≤◌};
 
 use crate::checksum::checksum;
 use crate::list::Item;
@@ -28,26 +28,11 @@ impl fmt::Write for Output {
     }
 }
 
-// A list's content, two hexadecimal digits a byte.
-#[derive(Drop)]
-struct Hex<'a, T>(&'a [T]);
-
-impl<T: Item> fmt::Display for Hex<'_, T> {
-    // Item after item.
-    fn fmt<W: fmt::Write>(&self, f: &mut fmt::Formatter<W>) -> fmt::Result {
-        for x in self.0 {
-            bytes(*x, f)?;
-        }
-        Ok(())
-    }
-}
-
-// An item's bytes, two hexadecimal digits each.
-fn bytes<T: Item, W: fmt::Write>(x: T, f: &mut fmt::Formatter<W>) -> fmt::Result {
-    for byte in x.bytes().as_slice() {
-        write!(f, "{byte:02x}")?;
-    }
-    Ok(())
+// The hexadecimal digit of a number below 16.
+fn glyph(n: u8) -> u8
+    requires { n < 16 }
+{
+    if n < 10 { b'0' + n } else { b'a' + (n - 10) }
 }
 
 impl Output {
@@ -78,19 +63,31 @@ impl Output {
         self.waiting += 1;
     }
 
+    // A list's content, two hexadecimal digits a byte. Each is put out by itself: behind `Display` a list took four times as long by `{:02x}`, and half as long again by `write_char`.
+    fn hex<T: Item>(&mut self, list: &[T]) {
+        for x in list {
+            for byte in x.bytes().as_slice() {
+                self.byte(glyph(*byte / 16));
+                self.byte(glyph(*byte % 16));
+            }
+        }
+    }
+
     // A number and a value, with no counts.
     fn value<T: Item>(&mut self, number: u8, value: &[T]) {
-        let _ = write!(self, "{number} {} - -", Hex(value));
+        let _ = write!(self, "{number} ");
+        self.hex(value);
+        let _ = self.write_str(" - -");
     }
 
     // A lent list: the number of its elements, and its content in full up to 64 bytes.
     pub(crate) fn lent<T: Item>(&mut self, list: &[T]) {
         let _ = write!(self, " {}:", list.len());
-        let _ = if size_of_val(list) <= 64 {
-            write!(self, "{}", Hex(list))
+        if size_of_val(list) <= 64 {
+            self.hex(list);
         } else {
-            write!(self, "#{:016x}", checksum(list))
-        };
+            let _ = write!(self, "#{:016x}", checksum(list));
+        }
     }
 
     // The line of an answer alone.
@@ -127,10 +124,7 @@ pub(crate) trait Answer {
 impl Answer for Result<Element, Refusal> {
     // An element.
     fn write_to(self, output: &mut Output) {
-        let r = match self {
-            Ok(e) => answer::value(e),
-            Err(refusal) => answer::refused_value(refusal.number()),
-        };
+        let r = answer::of_element(self);
         output.value(r.number, &r.value);
     }
 }
@@ -138,20 +132,15 @@ impl Answer for Result<Element, Refusal> {
 impl<T: Item, const N: usize> Answer for Result<[T; N], Refusal> {
     // A row, a scalar or a window.
     fn write_to(self, output: &mut Output) {
-        match self {
-            Ok(list) => output.value(0, &list),
-            Err(refusal) => output.value(refusal.number(), &[T::default(); N]),
-        }
+        let number = answer::number(&self);
+        output.value(number, &answer::list(self, T::default()));
     }
 }
 
 impl Answer for Result<Counts, Refusal> {
     // Counts alone.
     fn write_to(self, output: &mut Output) {
-        let r = match self {
-            Ok(c) => answer::counted(c),
-            Err(refusal) => answer::refused_counted(refusal.number()),
-        };
+        let r = answer::of_counts(self);
         let _ = write!(output, "{} - {} {}", r.number, r.additions, r.doublings);
     }
 }
@@ -159,17 +148,9 @@ impl Answer for Result<Counts, Refusal> {
 impl Answer for Result<Walk, Refusal> {
     // A sum, and what it took.
     fn write_to(self, output: &mut Output) {
-        let r = match self {
-            Ok(w) => answer::sum(w.element, w.additions, w.doublings),
-            Err(refusal) => answer::refused_sum(refusal.number()),
-        };
-        let _ = write!(
-            output,
-            "{} {} {} {}",
-            r.number,
-            Hex(&r.value),
-            r.additions,
-            r.doublings
-        );
+        let r = answer::of_sum(self);
+        let _ = write!(output, "{} ", r.number);
+        output.hex(&r.value);
+        let _ = write!(output, " {} {}", r.additions, r.doublings);
     }
 }

@@ -24,6 +24,11 @@ unfoldable pub as_sum : Result Walk Refusal → Sum
 as_sum (Ok w) = sum_done w.element w.additions w.doublings
 as_sum (Err r) = summed (number_of r) 0 0 0
 
+-- a list of N, and as many zeros where the call is refused
+unfoldable pub as_list : {A : Type 0} → ℕ → A → Result (List A) Refusal → List A
+as_list N zero (Ok l) = l
+as_list N zero (Err r) = replicate N zero
+
 -- a row, the bytes of a scalar, a window
 unfoldable pub as_row : (N : ℕ) → Result (List ℤ) Refusal → RowAnswer N
 as_row N (Ok l) = record { number = done; row = l }

@@ -39,18 +39,15 @@ impl fmt::Display for Hex {
     }
 }
 
-// One line: the case's name, the number, the result, which is zeros where the call is refused.
-fn line(rt: &impl Print, name: &str, r: Result<Element, Refusal>) {
-    let r = match r {
-        Ok(e) => answer::value(e),
-        Err(refusal) => answer::refused_value(refusal.number()),
-    };
-    let _ = println!(rt; "{name} {} {}", r.number, Hex(r.value));
+// One line: the case's name, the number, the result.
+fn line(rt: &impl Print, name: &str, number: u8, value: [u64; POINT_LIMBS]) {
+    let _ = println!(rt; "{name} {number} {}", Hex(value));
 }
 
 // The line of a sum.
 fn sum(rt: &impl Print, name: &str, r: Result<Walk, Refusal>) {
-    line(rt, name, r.map(|w| w.element));
+    let r = answer::of_sum(r);
+    line(rt, name, r.number, r.value);
 }
 
 // The line of NAF Straus on up to two pairs.
@@ -166,8 +163,8 @@ fn b1(rt: &impl Print) {
     let mut windows = [0u64; 2 * SLOT_LIMBS];
     sum(rt, "B1a", b1a(&mut digits, &mut windows));
     sum(rt, "B1b", b1b(&mut digits, &mut windows));
-    let edited = set_one(&mut digits, &mut windows, 2);
-    line(rt, "B1c", edited.map(|_| residue::identity()));
+    let edited = answer::of_counts(set_one(&mut digits, &mut windows, 2));
+    line(rt, "B1c", edited.number, [0u64; POINT_LIMBS]);
 }
 
 fn main(rt: HostRuntime) {

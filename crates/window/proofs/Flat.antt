@@ -1,20 +1,28 @@
 -- Windows as flat limbs: their entries, and the residues that their entries say.
 use mathlib.Core.Path.{◌≡◌, refl, sym, ap, ◌∙◌}
-use mathlib.Core.List.{List}
+use mathlib.Core.List.{List, [], ◌∷◌, ◌++◌}
 use Prim.Native.Nat.{ℕ, zero, suc, ◌+◌, ◌*◌, ◌<◌}
 use native.Mathlib.Nat.{add-zero}
 use native.Mathlib.Omega.{arith}
 use lib.ListN.{length, get_or}
+use Rattle.std.specs.List.{flat_map}
 use Rattle.rules.specs.declared.Element.{Element}
 use Rattle.rules.specs.Values.{limb, limbs_of, value_of, element_of, element_at, point_at}
 use Rattle.rules.specs.Group.{L, elements, residues}
 use Rattle.rules.specs.Windows.{stepped, successive, odd, limbs_flat}
+use Rattle.rules.specs.Lists.{joined}
 use Rattle.rules.specs.Helpers.{elements_flat, flat_in}
 use Rattle.laws.specs.Parts.{part_at, flat-length, flat-part, flat-ext}
 use Rattle.laws.specs.Carried.{stepped-carry}
 use Rattle.limbs.proofs.Elements.{same, Ranged, whole, limbs-of}
 use Rattle.residue.proofs.Members.{Member, value_in_lem, added-in, added-value, added-ranged}
 use Rattle.residue.proofs.Laws.{carries}
+
+-- the limb arrays of a window as the flat list of them
+pub joined-flat : (w : List (List ℕ)) → flat_map (λ x. x) w ≡ joined w
+unfolding joined
+joined-flat [] = refl
+joined-flat (x ∷ w) = ap (λ (y : List ℕ). x ++ y) (joined-flat w)
 
 -- an element read from limbs in range
 pub read-ranged : (w : List ℕ) → ((i : ℕ) → get_or w i 0 < limb) → (k : ℕ) → Ranged (element_at w k)

@@ -1,3 +1,2 @@
 pub mod Flat
 mod Tables
-mod Stepping

@@ -1,4 +1,5 @@
 use native.Mathlib.Omega.{arith}
+use Rattle.std.proofs.Common.{le_trans}
 use Rattle.laws.proofs.Numerals.{part-lt}
 use Rattle.radix.proofs.Ints.{out-is, left-is, more-is}
 use Rattle.radix.proofs.NibbleTurn.{v-le, here-is, carry-le, next-is, centring-none, centring-more, centring-end}
@@ -14,7 +15,7 @@ loop-i-preserved c =
     let is = here-is _ _ _ h lt in
     let le = v-le _ _ _ h lt in
     let out = out-is _ _ is le in
-    centring-more _ _ _ h lt _ _ (left-is _ _ is le _ out) (more-is _ _ (next-is _ _ _ h lt _) (omega arith) _ _ out (carry-le _ _ _ h lt))
+    centring-more _ _ _ h lt _ _ (left-is _ _ is le _ out) (more-is _ _ (next-is _ _ _ h lt _) (omega arith) _ _ out (le_trans (carry-le _ _ _ h lt) (omega arith)))
 
 pub returns : goal.returns
 returns c =

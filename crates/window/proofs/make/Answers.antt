@@ -3,7 +3,7 @@ use mathlib.Core.Path.{refl, ap, ◌∙◌}
 use mathlib.Core.List.{List}
 use Prim.Native.Nat.{ℕ}
 use Rattle.rules.specs.Lists.{put}
-use Rattle.window.proofs.Stepping.{joined-flat}
+use Rattle.window.proofs.Flat.{joined-flat}
 use Rattle.window.proofs.make.Goals as goal
 
 pub returns : goal.returns
