@@ -60,7 +60,7 @@ impl fmt::Display for NoTotal {
 
 // The number of a call is written: 0 where it is done, and else that of its refusal. What it took is left out.
 fn done(rt: &impl Print, call: &str, answer: Result<Counts, Refusal>) -> Result<(), Refusal> {
-    let number = answer.err().map_or(0, Refusal::number);
+    let number = answer::number(&answer);
     let _ = println!(rt; "{call}: number {number}");
     answer.map(|_| ())
 }
